@@ -1,0 +1,6 @@
+// What a block cipher is, and how new keys are made with one.
+mod block_cipher;
+
+pub use block_cipher::BlockBuffer;
+pub use block_cipher::BlockCipher;
+pub use block_cipher::KeyBuffer;
