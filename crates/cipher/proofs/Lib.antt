@@ -1,3 +1,5 @@
 pub mod Every
 pub mod Words
 pub mod Numbers
+pub mod Sizes
+pub mod Joining

@@ -1,3 +1,4 @@
 pub mod Bytes
 pub mod Model
 pub mod Derivation
+pub mod KeyBlocks
