@@ -24,10 +24,14 @@ counting-more : (k : ℕ) → counting 0 (k + 1) ≡ counting 0 k ++ k ∷ []
 counting-more k =
     sym (map-id (counting 0 (k + 1))) ∙ map-counting-more (λ x. x) 0 k k (omega arith) ∙ ap (λ l. l ++ k ∷ []) (map-id (counting 0 k))
 
+-- one part more
+joined-one : (f : ℕ → List ℕ) (k : ℕ) → joined f (counting 0 k) ++ f k ≡ joined f (counting 0 (k + 1))
+joined-one f k = joined-more f [] (counting 0 k) k ∙ ap (joined f) (sym (counting-more k))
+
 -- the step of a loop that writes the parts f 0, f 1 .. of n bytes over zeros
 pub joined-step : (f : ℕ → List ℕ) (n k : ℕ) (out part : List ℕ) → k * n + n ≤ 32 → length out ≡ 32 → length part ≡ n → part ≡ f k
-  → out ≡ joined f (counting 0 k) ++ replicate (32 - k * n) 0
-  → (length (putMid (k * n) (k * n + n - k * n) out part) ≡ 32)
+    → out ≡ joined f (counting 0 k) ++ replicate (32 - k * n) 0
+    → (length (putMid (k * n) (k * n + n - k * n) out part) ≡ 32)
     × (putMid (k * n) (k * n + n - k * n) out part ≡ joined f (counting 0 (k + 1)) ++ replicate (32 - (k + 1) * n) 0)
 joined-step f n k out part h l p e inv =
     let js = joined f (counting 0 k) in
@@ -38,8 +42,9 @@ joined-step f n k out part h l p e inv =
     let head : take (k * n) out ≡ js = ap (take (k * n)) inv ∙ take-at js zs (k * n) long in
     let tail : drop (k * n) out ≡ zs = ap (drop (k * n)) inv ∙ drop-at js zs (k * n) long in
     let rest : drop (k * n + n - k * n) (drop (k * n) out) ≡ replicate (32 - (k + 1) * n) 0 =
-        (λ i. drop (width i) (tail i)) ∙ drop-replicate n (32 - k * n) 0 ∙ ap (λ x. replicate x 0) next in
-    (simp (length-append, length-take, length-drop) (omega arith),
-    (λ i. head i ++ (e i ++ rest i))
-    ∙ sym (append-assoc js (f k) (replicate (32 - (k + 1) * n) 0))
-    ∙ ap (λ x. x ++ replicate (32 - (k + 1) * n) 0) (joined-more f [] (counting 0 k) k ∙ ap (joined f) (sym (counting-more k))))
+    (λ i. drop (width i) (tail i)) ∙ drop-replicate n (32 - k * n) 0 ∙ ap (λ x. replicate x 0) next in (
+      simp (length-append, length-take, length-drop) (omega arith),
+      (λ i. head i ++ (e i ++ rest i))
+          ∙ sym (append-assoc js (f k) (replicate (32 - (k + 1) * n) 0))
+          ∙ ap (λ x. x ++ replicate (32 - (k + 1) * n) 0) (joined-one f k),
+    )

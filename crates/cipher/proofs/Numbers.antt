@@ -17,7 +17,7 @@ number-last (suc n) t =
 
 -- the step of a loop that writes a number from its lowest byte on: k bytes are left to write
 pub number-more : (k r : ℕ) (b : List ℕ) → 0 < k → k ≤ length b
-  → number k r ++ drop k b ≡ number (k - 1) (r / 256) ++ drop (k - 1) (set b (k - 1) (r % 256))
+    → number k r ++ drop k b ≡ number (k - 1) (r / 256) ++ drop (k - 1) (set b (k - 1) (r % 256))
 number-more k r b h l =
     let n : k ≡ suc (k - 1) = omega arith in
     let m : k ≡ k - 1 + 1 = omega arith in

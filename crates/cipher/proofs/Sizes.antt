@@ -8,7 +8,7 @@ use Rattle.cipher.specs.Derivation.{parts}
 
 -- what holds at each length holds at a cipher's: P of a block's and a key's
 at-lengths : (P : ℕ → ℕ → Type 0) → P 8 16 → P 8 32 → P 16 16 → P 16 32
-  → (n k : ℕ) → (n ≡ 8) ⊎ (n ≡ 16) → (k ≡ 16) ⊎ (k ≡ 32) → P n k
+    → (n k : ℕ) → (n ≡ 8) ⊎ (n ≡ 16) → (k ≡ 16) ⊎ (k ≡ 32) → P n k
 at-lengths P a b c d n k (inl e) (inl f) = subst (λ x. P x k) (sym e) (subst (P 8) (sym f) a)
 at-lengths P a b c d n k (inl e) (inr f) = subst (λ x. P x k) (sym e) (subst (P 8) (sym f) b)
 at-lengths P a b c d n k (inr e) (inl f) = subst (λ x. P x k) (sym e) (subst (P 16) (sym f) c)

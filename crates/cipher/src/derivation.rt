@@ -70,7 +70,8 @@ fn enciphered<C: BlockCipher>(cipher: &C, blocks: KeyBlocks, j: usize) -> BlockB
 
 // E under the key of the blocks, as many as make a key, joined; zeros follow a shorter key.
 fn make<C: BlockCipher>(key: &KeyBuffer, blocks: KeyBlocks) -> KeyBuffer
-    ensures { λ r. ⌜ r ≡ made (C·BlockCipher .model) (take (C·BlockCipher .model .key) (now (key .entry))) (blockOf (C·BlockCipher .model .block) blocks) ++ replicate (32 - C·BlockCipher .model .key) 0 ⌝ }
+    ensures value { λ r. ⌜ take (C·BlockCipher .model .key) r ≡ made (C·BlockCipher .model) (take (C·BlockCipher .model .key) (now (key .entry))) (blockOf (C·BlockCipher .model .block) blocks) ⌝ }
+    ensures rest { λ r. ⌜ drop (C·BlockCipher .model .key) r ≡ replicate (32 - C·BlockCipher .model .key) 0 ⌝ }
 {
     let cipher = C::schedule(key);
     let n = C::block_len();
@@ -84,14 +85,16 @@ fn make<C: BlockCipher>(key: &KeyBuffer, blocks: KeyBlocks) -> KeyBuffer
 
 // The key renewed once (ACPKM).
 pub fn renew<C: BlockCipher>(key: &KeyBuffer) -> KeyBuffer
-    ensures { λ r. ⌜ r ≡ renewed (C·BlockCipher .model) (take (C·BlockCipher .model .key) (now (key .entry))) ++ replicate (32 - C·BlockCipher .model .key) 0 ⌝ }
+    ensures value { λ r. ⌜ take (C·BlockCipher .model .key) r ≡ renewed (C·BlockCipher .model) (take (C·BlockCipher .model .key) (now (key .entry))) ⌝ }
+    ensures rest { λ r. ⌜ drop (C·BlockCipher .model .key) r ≡ replicate (32 - C·BlockCipher .model .key) 0 ⌝ }
 {
     make::<C>(key, KeyBlocks::Constants)
 }
 
 // The key that the blocks numbered from `first` on make.
 pub fn derive<C: BlockCipher>(key: &KeyBuffer, first: u32) -> KeyBuffer
-    ensures { λ r. ⌜ r ≡ derived (C·BlockCipher .model) (take (C·BlockCipher .model .key) (now (key .entry))) first ++ replicate (32 - C·BlockCipher .model .key) 0 ⌝ }
+    ensures value { λ r. ⌜ take (C·BlockCipher .model .key) r ≡ derived (C·BlockCipher .model) (take (C·BlockCipher .model .key) (now (key .entry))) first ⌝ }
+    ensures rest { λ r. ⌜ drop (C·BlockCipher .model .key) r ≡ replicate (32 - C·BlockCipher .model .key) 0 ⌝ }
 {
     make::<C>(key, KeyBlocks::Numbers(first))
 }

@@ -21,7 +21,7 @@ pub record Front (text bytes : List ℕ) (i : ℕ) : Type 0 where
 
 -- one byte more
 pub front-more : (text bytes : List ℕ) (i h l : ℕ) → Digit (getD text (2 * i) 0) h → Digit (getD text (2 * i + 1) 0) l
-  → Front text bytes i → Front text (bytes ++ (h * 16 + l) ∷ []) (i + 1)
+    → Front text bytes i → Front text (bytes ++ (h * 16 + l) ∷ []) (i + 1)
 front-more text bytes i h l hi lo f =
     let less = small _ l lo in
     let new = getD-push bytes (h * 16 + l) 0 i (f .long) in
@@ -54,7 +54,7 @@ no-low text i lt none bytes s = none _ (s .low i (omega (arith, s .pairs)))
 
 -- the digits of one byte more
 pub encoded-more : (bytes : List ℕ) (i : ℕ) → i < length bytes
-  → (encoded (take i bytes) ++ capital (getD bytes i 0 / 16) ∷ []) ++ capital (getD bytes i 0 % 16) ∷ [] ≡ encoded (take (i + 1) bytes)
+    → (encoded (take i bytes) ++ capital (getD bytes i 0 / 16) ∷ []) ++ capital (getD bytes i 0 % 16) ∷ [] ≡ encoded (take (i + 1) bytes)
 encoded-more bytes i h =
     let b = getD bytes i 0 in
     append-assoc (encoded (take i bytes)) (capital (b / 16) ∷ []) (capital (b % 16) ∷ [])

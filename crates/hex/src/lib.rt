@@ -45,7 +45,11 @@ fn digit(v: u8) -> char
     ensures value { λ r. ⌜ r ≡ capital v ⌝ }
     ensures ascii { λ r. ⌜ r < 128 ⌝ }
 {
-    if v < 10 { char::from(b'0' + v) } else { char::from(b'A' + (v - 10)) }
+    if v < 10 {
+        char::from(b'0' + v)
+    } else {
+        char::from(b'A' + (v - 10))
+    }
 }
 
 // The digits of the bytes, letters as capitals.

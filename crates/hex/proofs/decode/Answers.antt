@@ -17,8 +17,9 @@ returns-in-Break-low c =
     rw (p .1, p .2, c .in-Break-low .ensures tt .0) (no-low (c .args .text .now) (c .loop-i .i) (omega arith) (c .in-Break-low .ensures tt .1))
 
 pub loop-i-again : need.loop-i-again
-loop-i-again c =
-    (c .loop-i .inv .0,
-     rw (c .in-Continue-push .ensures tt .items)
-     (front-more (c .args .text .now) (vec-items (c .loop-i .bytes)) (c .loop-i .i) (c .in-Continue-high .high) (c .in-Continue-low .low)
-      (c .in-Continue-high .ensures tt) (c .in-Continue-low .ensures tt) (c .loop-i .inv .1)))
+loop-i-again c = (
+  c .loop-i .inv .0,
+  rw (c .in-Continue-push .ensures tt .items)
+      (front-more (c .args .text .now) (vec-items (c .loop-i .bytes)) (c .loop-i .i) (c .in-Continue-high .high) (c .in-Continue-low .low)
+      (c .in-Continue-high .ensures tt) (c .in-Continue-low .ensures tt) (c .loop-i .inv .1)),
+)

@@ -21,4 +21,4 @@ returns g c =
     let all : length (part ++ post) ≡ 16 = simp (length-append, length-drop) (omega arith) in
     front n _ (part ++ post) (c .encipher .last .block) (c .encipher .ensures) (omega arith) (omega arith)
     ∙ ap (m .enc (g .C·BlockCipher .keyed (c .args .cipher .now)))
-        (take-at part post n long ∙ c .write .ensures ∙ ap (λ k. block k (c .args .blocks) (c .args .j)) wide)
+    (take-at part post n long ∙ c .write .ensures ∙ ap (λ k. block k (c .args .blocks) (c .args .j)) wide)

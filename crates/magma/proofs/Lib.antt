@@ -1,0 +1,5 @@
+pub mod Permutation
+pub mod Paired
+pub mod Feistel
+pub mod WordsAndBytes
+pub mod Law

@@ -1,0 +1,4 @@
+pub mod Spacing
+pub mod Digits
+pub mod Fields
+pub mod Reading
