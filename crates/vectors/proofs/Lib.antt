@@ -1,4 +1,2 @@
-pub mod Spacing
-pub mod Digits
 pub mod Fields
 pub mod Reading

@@ -6,7 +6,7 @@ use Prim.Native.Nat.{ℕ, _≤_}
 use native.Mathlib.Omega.{arith}
 use lib.ListN.{length, take, drop, replicate}
 use Rattle.std.proofs.shelf.Lists.{length-take, length-replicate, take-at, drop-at, drop-replicate}
-use Rattle.hex.specs.Hex.{Spells}
+use Rattle.text.specs.Hex.{Spells}
 use Rattle.vectors.specs.Ciphers.{modelOf}
 use Rattle.vectors.specs.Requests.{actionWord, cipherWord, Four, SpellsFront, SpellsKey, BytesFault, TimesFault, Refused}
 use Rattle.vectors.specs.declared.kinds.CipherName.{CipherName}

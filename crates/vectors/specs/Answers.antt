@@ -8,7 +8,7 @@ use Rattle.std.specs.declared.result.Result.{Result}
 use Rattle.std.specs.declared.result.Result.the-variants.{Ok, Err}
 use Rattle.cipher.specs.Model.{Model}
 use Rattle.cipher.specs.Derivation.{renewed}
-use Rattle.hex.specs.Hex.{encoded}
+use Rattle.text.specs.Hex.{encoded}
 use Rattle.vectors.specs.Ciphers.{modelOf}
 use Rattle.vectors.specs.Requests.{Parsed}
 use Rattle.vectors.specs.declared.kinds.Request.{Request}

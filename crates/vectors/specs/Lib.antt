@@ -1,5 +1,3 @@
-pub mod Words
-pub mod Numerals
 pub mod Faults
 pub mod Ciphers
 pub mod Requests

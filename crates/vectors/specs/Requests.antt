@@ -9,10 +9,10 @@ use Rattle.std.specs.declared.option.Option.{Option}
 use Rattle.std.specs.declared.option.Option.the-variants.{Some, None}
 use Rattle.std.specs.declared.result.Result.{Result}
 use Rattle.std.specs.declared.result.Result.the-variants.{Ok, Err}
-use Rattle.hex.specs.Hex.{Spells}
+use Rattle.text.specs.Hex.{Spells}
 use Rattle.vectors.specs.Ciphers.{modelOf}
-use Rattle.vectors.specs.Words.{Words}
-use Rattle.vectors.specs.Numerals.{Numeral}
+use Rattle.text.specs.Words.{Words}
+use Rattle.text.specs.Numerals.{Numeral}
 use Rattle.vectors.specs.declared.kinds.CipherName.{CipherName}
 use Rattle.vectors.specs.declared.kinds.CipherName.the-variants.{Aes256, Magma}
 use Rattle.vectors.specs.declared.kinds.Action.{Action}

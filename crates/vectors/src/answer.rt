@@ -4,7 +4,7 @@ ghost use lib.ListN.{take};
 ghost use Rattle.std.specs.Of.String.{string-bytes};
 ghost use Rattle.std.specs.Vec.{made};
 ghost use Rattle.cipher.specs.Derivation.{renewed as renewedOf};
-ghost use Rattle.hex.specs.Hex.{encoded};
+ghost use Rattle.text.specs.Hex.{encoded};
 ghost use Rattle.vectors.specs.Answers.{repeated, done, answered, message as messageOf, Answers};
 use crate::kinds::CipherName;
 use crate::kinds::Fault;
@@ -21,6 +21,7 @@ use magma::Magma;
 use magma::MagmaCipher;
 use std::alloc::AllocError;
 use std::alloc::Global;
+use text::to_hex;
 
 // The block enciphered under the key.
 fn enciphered<C: BlockCipher>(key: &KeyBuffer, mut block: BlockBuffer) -> BlockBuffer
@@ -55,9 +56,9 @@ fn perform<C: BlockCipher>(heap: Global, task: Task) -> Result<String, AllocErro
 {
     let (k, n) = (C::key_len(), C::block_len());
     match task {
-        Task::Encipher(key, block) => hex::encode(heap, &enciphered::<C>(&key, block)[0..n]),
-        Task::Decipher(key, block) => hex::encode(heap, &deciphered::<C>(&key, block)[0..n]),
-        Task::Renew(key, times) => hex::encode(heap, &renewed::<C>(&key, times)[0..k]),
+        Task::Encipher(key, block) => to_hex(heap, &enciphered::<C>(&key, block)[0..n]),
+        Task::Decipher(key, block) => to_hex(heap, &deciphered::<C>(&key, block)[0..n]),
+        Task::Renew(key, times) => to_hex(heap, &renewed::<C>(&key, times)[0..k]),
     }
 }
 

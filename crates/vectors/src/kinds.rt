@@ -4,7 +4,7 @@ ghost use Rattle.vectors.specs.declared.kinds.Fault.the-variants.{Memory as no
 ghost use Rattle.vectors.specs.Faults.{ofHex};
 use cipher::BlockBuffer;
 use cipher::KeyBuffer;
-use hex::HexFault;
+use text::HexFault;
 use std::alloc::AllocError;
 
 #[derive(Clone, Copy)]

@@ -1,9 +1,7 @@
 // The known-answer program: a request a line in, an answer a line out.
 mod answer;
-mod decimal;
 mod kinds;
 mod request;
-mod words;
 
 use answer::answer;
 use std::alloc::AllocError;

@@ -7,7 +7,6 @@ ghost use denote.Ref.{now as held};
 ghost use Rattle.std.specs.Orderings.{Decides};
 ghost use Rattle.vectors.specs.Ciphers.{modelOf};
 ghost use Rattle.vectors.specs.Requests.{actionWord, IsAction, IsCipher, BytesRead, KeyRead, BlockRead, TimesRead, Read, Parsed};
-use crate::decimal::decimal;
 use crate::kinds::Action;
 use crate::kinds::AllocFault;
 use crate::kinds::CipherName;
@@ -15,7 +14,6 @@ use crate::kinds::Fault;
 use crate::kinds::HexRequestFault;
 use crate::kinds::Request;
 use crate::kinds::Task;
-use crate::words::words;
 use aes::Aes256;
 use aes::AesCipher;
 use cipher::BlockBuffer;
@@ -24,6 +22,9 @@ use cipher::KeyBuffer;
 use magma::Magma;
 use magma::MagmaCipher;
 use std::alloc::Global;
+use text::from_decimal;
+use text::from_hex;
+use text::split_words;
 
 const LONGEST_LINE: usize = 4096;
 
@@ -68,7 +69,7 @@ fn cipher_name(word: &[u8]) -> Option<CipherName>
 fn read_bytes(heap: Global, text: &[u8], wrong: Fault, out: &mut [u8]) -> Result<(), Fault>
     ensures { λ r. ⌜ BytesRead (now (text .entry)) wrong (now (out .entry)) (now (out .exit)) r ⌝ }
 {
-    let bytes = hex::decode(heap, text)?;
+    let bytes = from_hex(heap, text)?;
     if bytes.len() != out.len() {
         return Err(wrong);
     }
@@ -109,7 +110,7 @@ fn read_block(heap: Global, cipher: CipherName, text: &[u8]) -> Result<BlockBuff
 fn read_times(text: &[u8]) -> Result<u32, Fault>
     ensures { λ r. ⌜ TimesRead (now (text .entry)) r ⌝ }
 {
-    let Some(times) = decimal(text) else {
+    let Some(times) = from_decimal(text) else {
         return Err(Fault::Number);
     };
     if times > MOST_RENEWALS {
@@ -161,6 +162,6 @@ pub fn parse(heap: Global, line: &[u8]) -> Result<Request, Fault>
     if line.len() > LONGEST_LINE {
         return Err(Fault::LongLine);
     }
-    let words = words(heap, line)?;
+    let words = split_words(heap, line)?;
     read(heap, words.as_slice())
 }

@@ -11,5 +11,5 @@ none = record { ptr = (0, 0); name = 0; now = [] }
 
 pub read-requires : need.read-requires
 read-requires c κs =
-    let h = some now none (vec-items (c .in-Continue-words .words)) (c .in-Continue-words .ensures tt .some) in
+    let h = some now none (vec-items (c .in-Continue-words .words)) (c .in-Continue-words .ensures tt .are .some) in
     rw (c .as-slice .ensures .value) h
