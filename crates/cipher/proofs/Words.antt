@@ -1,9 +1,10 @@
 -- A word of 32 bits and its four bytes. Assumes nothing.
 use mathlib.Core.Path.{_≡_}
 use mathlib.Core.List.{List, [], _∷_}
-use Prim.Native.Nat.{ℕ, _+_, _*_, _/_, _%_, _^_, _<_}
+use Prim.Native.Nat.{ℕ, zero, suc, _+_, _*_, _/_, _%_, _^_, _<_}
 use native.Mathlib.Nat.{mod-eq-of-lt}
 use native.Mathlib.Omega.{arith}
+use lib.ListN.{getD}
 use Rattle.std.specs.shelf.Lists.{All}
 use Rattle.std.proofs.shelf.Bits.{shr-shr, div-add-mod'}
 use Rattle.cipher.specs.Bytes.{wordBytes, word}
@@ -30,3 +31,14 @@ word-bytes w h = rw (← shr-shr w 16 8, ← shr-shr w 8 8) (digits w h)
 
 pub small-bytes : (w : ℕ) → All (λ x. x < 256) (wordBytes w)
 small-bytes w = (omega arith, (omega arith, (omega arith, (omega arith, tt))))
+
+pub small-at : (b : List ℕ) → All (λ x. x < 256) b → (k : ℕ) → getD b k 0 < 256
+small-at [] h k = omega arith
+small-at (x ∷ b) h zero = h .0
+small-at (x ∷ b) h (suc k) = small-at b (h .1) k
+
+-- the bytes of a word that stands in b
+pub bytes-word : (b : List ℕ) → ((k : ℕ) → getD b k 0 < 256)
+    → (i : ℕ) → wordBytes (word b i) ≡ getD b i 0 ∷ getD b (i + 1) 0 ∷ getD b (i + 2) 0 ∷ getD b (i + 3) 0 ∷ []
+bytes-word b small i =
+    bytes-word4 (getD b i 0) (getD b (i + 1) 0) (getD b (i + 2) 0) (getD b (i + 3) 0) (small i) (small (i + 1)) (small (i + 2)) (small (i + 3))

@@ -1,4 +1,5 @@
 pub mod Bytes
+pub mod Tables
 pub mod Model
 pub mod Derivation
 pub mod KeyBlocks

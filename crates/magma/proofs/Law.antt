@@ -13,12 +13,12 @@ use Rattle.std.proofs.shelf.Elements.{all-append}
 use Rattle.cipher.specs.Bytes.{Bytes, wordBytes}
 use Rattle.cipher.specs.Model.{Laws}
 use Rattle.cipher.proofs.Every.{left, right}
-use Rattle.cipher.proofs.Words.{word-bytes, small-bytes}
+use Rattle.cipher.proofs.Words.{word-bytes, small-bytes, small-at}
 use Rattle.magma.specs.Magma.{Pi', substituted, t, g, G, applied, rounds, roundKeys, keyWords, halves, whole, enc, dec, theModel}
 use Rattle.magma.specs.Rows.{permutation}
 use Rattle.magma.proofs.Permutation.{nibble-below}
 use Rattle.magma.proofs.Feistel.{rounds-back, length-round-keys}
-use Rattle.magma.proofs.WordsAndBytes.{small-at, whole-halves}
+use Rattle.magma.proofs.WordsAndBytes.{whole-halves}
 
 -- each row passes the test
 abbrev allPermute : List (List ℕ) → Bool

@@ -1,33 +1,23 @@
 -- The words of a key and of a block, and their bytes. Assumes nothing.
 use mathlib.Core.Path.{_≡_, refl, sym, _∙_}
-use mathlib.Core.List.{List, [], _∷_, _++_}
-use Prim.Native.Nat.{ℕ, zero, suc, _+_, _<_}
+use mathlib.Core.List.{List, [], _++_}
+use Prim.Native.Nat.{ℕ, _+_, _<_}
 use native.Mathlib.Omega.{arith}
 use lib.ListN.{length, getD, take}
-use Rattle.std.specs.shelf.Lists.{All}
 use Rattle.std.proofs.shelf.Counted.{fill-by-all}
 use Rattle.std.proofs.shelf.Lists.{getD-take}
-use Rattle.cipher.specs.Bytes.{word, wordBytes}
-use Rattle.cipher.proofs.Words.{word4, bytes-word4}
+use Rattle.cipher.specs.Bytes.{word}
+use Rattle.cipher.proofs.Words.{word4, bytes-word}
 use Rattle.magma.specs.Magma.{keyWords, keyBytes, halves, whole}
 
-pub small-at : (b : List ℕ) → All (λ x. x < 256) b → (k : ℕ) → getD b k 0 < 256
-small-at [] h k = omega arith
-small-at (x ∷ b) h zero = h .0
-small-at (x ∷ b) h (suc k) = small-at b (h .1) k
-
 module _ (b : List ℕ) (small : (k : ℕ) → getD b k 0 < 256) where
-  bytes-word : (i : ℕ) → wordBytes (word b i) ≡ getD b i 0 ∷ getD b (i + 1) 0 ∷ getD b (i + 2) 0 ∷ getD b (i + 3) 0 ∷ []
-  bytes-word i =
-      bytes-word4 (getD b i 0) (getD b (i + 1) 0) (getD b (i + 2) 0) (getD b (i + 3) 0) (small i) (small (i + 1)) (small (i + 2)) (small (i + 3))
-
   pub whole-halves : length b ≡ 8 → whole (halves b) ≡ b
-  whole-halves h = (λ j. bytes-word 0 j ++ bytes-word 4 j) ∙ sym (fill-by-all (λ k. getD b k 0) b 8 0 h (λ k l. refl))
+  whole-halves h = (λ j. bytes-word b small 0 j ++ bytes-word b small 4 j) ∙ sym (fill-by-all (λ k. getD b k 0) b 8 0 h (λ k l. refl))
 
   pub key-again : length b ≡ 32 → keyBytes (keyWords b) ≡ b
   key-again h =
-      (λ j. bytes-word 0 j ++ (bytes-word 4 j ++ (bytes-word 8 j ++ (bytes-word 12 j
-      ++ (bytes-word 16 j ++ (bytes-word 20 j ++ (bytes-word 24 j ++ (bytes-word 28 j ++ []))))))))
+      (λ j. bytes-word b small 0 j ++ (bytes-word b small 4 j ++ (bytes-word b small 8 j ++ (bytes-word b small 12 j
+      ++ (bytes-word b small 16 j ++ (bytes-word b small 20 j ++ (bytes-word b small 24 j ++ (bytes-word b small 28 j ++ []))))))))
       ∙ sym (fill-by-all (λ k. getD b k 0) b 32 0 h (λ k l. refl))
 
 word-front : (b : List ℕ) (i : ℕ) → i + 3 < 8 → word (take 8 b) i ≡ word b i

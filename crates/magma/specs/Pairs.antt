@@ -4,7 +4,7 @@ use mathlib.Core.List.{List, [], _∷_}
 use Prim.Native.Nat.{ℕ, _+_, _*_}
 use lib.Dec.{eqb}
 use lib.ListN.{getD}
-use Rattle.cipher.proofs.Every.{every}
+use Rattle.cipher.specs.Tables.{every}
 use Rattle.magma.specs.Magma.{Pi', substituted}
 
 -- what rows 2i and 2i + 1 make of a byte

@@ -52,10 +52,12 @@ no-high text i lt none bytes s = none _ (s .high i (omega (arith, s .pairs)))
 pub no-low : (text : List ℕ) (i : ℕ) → i < length text / 2 → ((v : ℕ) → Digit (getD text (2 * i + 1) 0) v → ⊥) → (bytes : List ℕ) → Spells text bytes → ⊥
 no-low text i lt none bytes s = none _ (s .low i (omega (arith, s .pairs)))
 
--- the digits of one byte more
-pub encoded-more : (bytes : List ℕ) (i : ℕ) → i < length bytes
-    → (encoded (take i bytes) ++ capital (getD bytes i 0 / 16) ∷ []) ++ capital (getD bytes i 0 % 16) ∷ [] ≡ encoded (take (i + 1) bytes)
-encoded-more bytes i h =
-    let b = getD bytes i 0 in
-    append-assoc (encoded (take i bytes)) (capital (b / 16) ∷ []) (capital (b % 16) ∷ [])
-    ∙ joined-more (λ x. capital (x / 16) ∷ capital (x % 16) ∷ []) [] (take i bytes) b ∙ ap encoded (sym (take-more bytes i 0 h))
+-- the digits of one byte more, by two pushes
+pub encoded-more : {s s′ s″ high low : List ℕ} (bytes : List ℕ) (i : ℕ) → i < length bytes
+    → s ≡ encoded (take i bytes) → s′ ≡ s ++ high → s″ ≡ s′ ++ low
+    → high ≡ capital (getD bytes i 0 / 16) ∷ [] → low ≡ capital (getD bytes i 0 % 16) ∷ [] → s″ ≡ encoded (take (i + 1) bytes)
+encoded-more {s} {s′} {s″} {high} {low} bytes i h e one two a b =
+    let d = getD bytes i 0 in
+    let all : s″ ≡ (encoded (take i bytes) ++ capital (d / 16) ∷ []) ++ capital (d % 16) ∷ [] = two ∙ ap (λ x. x ++ low) one ∙ (λ j. (e j ++ a j) ++ b j) in
+    all ∙ append-assoc (encoded (take i bytes)) (capital (d / 16) ∷ []) (capital (d % 16) ∷ [])
+    ∙ joined-more (λ x. capital (x / 16) ∷ capital (x % 16) ∷ []) [] (take i bytes) d ∙ ap encoded (sym (take-more bytes i 0 h))

@@ -4,8 +4,8 @@ ghost use Rattle.vectors.specs.declared.kinds.Fault.the-variants.{Memory as no
 ghost use Rattle.vectors.specs.Faults.{ofHex};
 use cipher::BlockBuffer;
 use cipher::KeyBuffer;
-use text::HexFault;
 use std::alloc::AllocError;
+use text::HexFault;
 
 #[derive(Clone, Copy)]
 pub enum CipherName {
