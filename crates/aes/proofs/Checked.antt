@@ -7,7 +7,8 @@ use lib.Dec.{T, eqb, eqb→eq}
 use lib.ListN.{length, getD}
 use Rattle.std.specs.Iters.{counting}
 use Rattle.std.proofs.shelf.Counted.{length-counting}
-use Rattle.cipher.proofs.Every.{every, at}
+use Rattle.cipher.specs.Tables.{every}
+use Rattle.cipher.proofs.Every.{at}
 
 -- a table that has at each place what a rule says
 pub tabled : (rule : ℕ → ℕ) (table : List ℕ) → T (every (λ i x. eqb x (rule i)) 0 table) → (k : ℕ) → k < length table → getD table k 0 ≡ rule k

@@ -4,8 +4,13 @@ use mathlib.Core.List.{List, [], _∷_, map}
 use Prim.Native.Nat.{ℕ, zero-le, suc-le-suc, _<_}
 use native.Mathlib.Nat.{not-suc-le-zero}
 use native.Mathlib.Omega.{arith}
+use denote.Ref.{RefT}
 use lib.ListN.{length, drop, getD}
 use Rattle.std.proofs.shelf.Lists.{length-map, length-drop}
+
+-- stands for a word that is not there
+abbrev pub no-word : RefT (List ℕ)
+no-word = record { ptr = (0, 0); name = 0; now = [] }
 
 module _ {X : Type 0} (f : X → List ℕ) (d : X) where
   pub first : (xs : List X) → 0 < length xs → map f xs ≡ f (getD xs 0 d) ∷ map f (drop 1 xs)
