@@ -14,7 +14,7 @@ use Rattle.cipher.specs.Bytes.{word, wordBytes}
 use Rattle.cipher.proofs.Words.{bytes-word4}
 use Rattle.aes.specs.Field.{_⊕_}
 use Rattle.aes.specs.Aes.{expanded, temp}
-use Rattle.aes.specs.Words.{keyOf}
+use Rattle.aes.specs.Words.{fourAt, keyOf}
 
 -- the word that the code writes at i is the next of the expansion
 pub expanded-more : (nk : ℕ) (key w : List ℕ) (i : ℕ) → 0 < nk → nk ≤ i → i < length w → take i w ≡ expanded nk (i - nk) key
@@ -26,9 +26,7 @@ expanded-more nk key w i pos low h e =
     let m : suc (i - nk) ≡ i + 1 - nk = omega arith in
     let back : getD ws (i - nk) 0 ≡ getD w (i - nk) 0 = ap (λ l. getD l (i - nk) 0) (sym e) ∙ getD-take i w (i - nk) 0 (omega arith) in
     let last : getD ws (i - 1) 0 ≡ getD w (i - 1) 0 = ap (λ l. getD l (i - 1) 0) (sym e) ∙ getD-take i w (i - 1) 0 (omega arith) in
-    let new =
-    ap (λ l. getD ws (l - nk) 0 ⊕ temp nk l (getD ws (l - 1) 0)) n
-    ∙ (λ j. back j ⊕ temp nk i (last j)) in
+    let new = ap (λ l. getD ws (l - nk) 0 ⊕ temp nk l (getD ws (l - 1) 0)) n ∙ (λ j. back j ⊕ temp nk i (last j)) in
     take-more-set w i _ h ∙ (λ j. e j ++ sym new j ∷ []) ∙ ap (λ l. expanded nk l key) m
 
 length-expanded : (nk n : ℕ) (key : List ℕ) → length (expanded nk n key) ≡ nk + n
@@ -46,18 +44,18 @@ first-words nk (suc n) key =
     take-append-le nk (expanded nk n key) _ (omega arith) ∙ first-words nk n key
 
 -- four more bytes of a list
-take-four : (xs : List ℕ) (i : ℕ) → i + 3 < length xs
-    → take (i + 4) xs ≡ take i xs ++ (getD xs i 0 ∷ getD xs (i + 1) 0 ∷ getD xs (i + 2) 0 ∷ getD xs (i + 3) 0 ∷ [])
+one-more : (xs ys : List ℕ) (i n : ℕ) → i + n < length xs → take (i + n) xs ≡ take i xs ++ ys
+    → take (i + suc n) xs ≡ take i xs ++ (ys ++ getD xs (i + n) 0 ∷ [])
+one-more xs ys i n h e =
+    let m : i + suc n ≡ i + n + 1 = omega arith in
+    ap (λ l. take l xs) m ∙ take-more xs (i + n) 0 h ∙ ap (λ l. l ++ getD xs (i + n) 0 ∷ []) e ∙ append-assoc (take i xs) ys (getD xs (i + n) 0 ∷ [])
+
+take-four : (xs : List ℕ) (i : ℕ) → i + 3 < length xs → take (i + 4) xs ≡ take i xs ++ fourAt xs i
 take-four xs i h =
-    let t = take i xs in
     let one = take-more xs i 0 (omega arith) in
-    let m2 : i + 2 ≡ i + 1 + 1 = omega arith in
-    let two = ap (λ m. take m xs) m2 ∙ take-more xs (i + 1) 0 (omega arith) ∙ ap (λ l. l ++ getD xs (i + 1) 0 ∷ []) one ∙ append-assoc t (getD xs i 0 ∷ []) (getD xs (i + 1) 0 ∷ []) in
-    let m3 : i + 3 ≡ i + 2 + 1 = omega arith in
-    let three = ap (λ m. take m xs) m3 ∙ take-more xs (i + 2) 0 (omega arith) ∙ ap (λ l. l ++ getD xs (i + 2) 0 ∷ []) two ∙ append-assoc t (getD xs i 0 ∷ getD xs (i + 1) 0 ∷ []) (getD xs (i + 2) 0 ∷ []) in
-    let m4 : i + 4 ≡ i + 3 + 1 = omega arith in
-    ap (λ m. take m xs) m4 ∙ take-more xs (i + 3) 0 (omega arith) ∙ ap (λ l. l ++ getD xs (i + 3) 0 ∷ []) three
-    ∙ append-assoc t (getD xs i 0 ∷ getD xs (i + 1) 0 ∷ getD xs (i + 2) 0 ∷ []) (getD xs (i + 3) 0 ∷ [])
+    let two = one-more xs (getD xs i 0 ∷ []) i 1 (omega arith) one in
+    let three = one-more xs (getD xs i 0 ∷ getD xs (i + 1) 0 ∷ []) i 2 (omega arith) two in
+    one-more xs (getD xs i 0 ∷ getD xs (i + 1) 0 ∷ getD xs (i + 2) 0 ∷ []) i 3 h three
 
 -- the words of a key hold its bytes
 pub key-of-words : (nk : ℕ) (key : List ℕ) → 4 * nk ≤ length key → ((i : ℕ) → getD key i 0 < 256)

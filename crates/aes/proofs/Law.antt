@@ -11,9 +11,9 @@ use Rattle.std.specs.shelf.Lists.{All}
 use Rattle.std.proofs.shelf.Elements.{all-map, all-from-getD}
 use Rattle.cipher.specs.Bytes.{Bytes, wordBytes}
 use Rattle.cipher.specs.Model.{Laws}
-use Rattle.cipher.proofs.Words.{small-bytes}
+use Rattle.cipher.proofs.Words.{small-bytes, small-at}
 use Rattle.aes.specs.Field.{_⊕_, _•_}
-use Rattle.aes.specs.Aes.{at, state, sBox, subBytes, shiftRows, column, product, circulant, mixColumns, addRoundKey, roundKey, round, rounds, lastRound, cipher, keyExpansion, invShiftRows, invSBox, invSubBytes, invMixColumns, invRound, invRounds, invLastRound, invCipher, enc256, dec256, theModel}
+use Rattle.aes.specs.Aes.{at, state, sBox, subBytes, shiftRows, column, product, circulant, mixColumns, addRoundKey, roundKey, round, rounds, lastRound, cipher, keyExpansion, invShiftRows, invSubBytes, invMixColumns, invRound, invRounds, invCipher, enc256, dec256, theModel}
 use Rattle.aes.proofs.Fields.{product-below}
 use Rattle.aes.proofs.Mixing.{unmixed}
 use Rattle.aes.proofs.SBoxes.{sBox-below, invSBox-sBox}
@@ -23,12 +23,6 @@ use Rattle.aes.proofs.Xors.{cancel}
 -- every number of the list is a byte
 abbrev Small : List ℕ → Type 0
 Small = All (λ x. x < 256)
-
--- past its end a list reads as 0
-small-at : (s : List ℕ) → Small s → (k : ℕ) → getD s k 0 < 256
-small-at [] h k = omega arith
-small-at (x ∷ xs) h zero = h .0
-small-at (x ∷ xs) h (suc k) = small-at xs (h .1) k
 
 small-state : (f : ℕ → ℕ → ℕ) → ((r c : ℕ) → f r c < 256) → Small (state f)
 small-state f h =
@@ -45,9 +39,9 @@ key-undone : (s k : List ℕ) → length s ≡ 16 → addRoundKey (addRoundKey s
 unfolding addRoundKey
 key-undone s k l = (λ j. state (λ r c. cancel (at s r c) (getD (wordBytes (getD k c 0)) r 0) j)) ∙ spread s l
 
-small-shifted : (s : List ℕ) → Small s → Small (shiftRows (subBytes s))
-small-shifted s h =
-    let t = small-state (λ r c. sBox (at s r c)) (λ r c. sBox-below (at s r c) (small-at s h (r + 4 * c))) in
+small-shifted : (s : List ℕ) → Small (shiftRows (subBytes s))
+small-shifted s =
+    let t = small-state (λ r c. sBox (at s r c)) (λ r c. sBox-below (at s r c)) in
     small-state _ (λ r c. small-at (subBytes s) t (r + 4 * ((c + r) % 4)))
 
 shifted-undone : (s : List ℕ) → length s ≡ 16 → Small s → invSubBytes (invShiftRows (shiftRows (subBytes s))) ≡ s
@@ -79,54 +73,39 @@ long-key : (s k : List ℕ) → length (addRoundKey s k) ≡ 16
 unfolding addRoundKey
 long-key s k = refl
 
-small-round : (s k : List ℕ) → Small s → Small (round s k)
-unfolding round
-small-round s k h =
-    small-key (mixColumns (shiftRows (subBytes s))) k (small-mixed (shiftRows (subBytes s)) (small-shifted s h))
-
 -- what stands between ShiftRows and MixColumns of a round, from the same of the next round
-round-undone : (s k : List ℕ) → Small s → invRound (shiftRows (subBytes (round s k))) k ≡ shiftRows (subBytes s)
+round-undone : (s k : List ℕ) → invRound (shiftRows (subBytes (round s k))) k ≡ shiftRows (subBytes s)
 unfolding invRound round
-round-undone s k h =
+round-undone s k =
     let t = shiftRows (subBytes s) in
     let u = mixColumns t in
-    ap (λ v. invMixColumns (addRoundKey v k)) (shifted-undone (addRoundKey u k) (long-key u k) (small-round s k h))
+    let small = small-key u k (small-mixed t (small-shifted s)) in
+    ap (λ v. invMixColumns (addRoundKey v k)) (shifted-undone (addRoundKey u k) (long-key u k) small)
     ∙ ap invMixColumns (key-undone u k refl)
-    ∙ mixed-undone t refl (small-shifted s h)
+    ∙ mixed-undone t refl (small-shifted s)
 
 -- n rounds
-small-rounds : (n : ℕ) (w s : List ℕ) → Small s → Small (rounds n w s)
-small-rounds zero w s h = small-key s (roundKey w 0) h
-small-rounds (suc n) w s h = small-round (rounds n w s) (roundKey w (suc n)) (small-rounds n w s h)
+rounds-undone : (n : ℕ) (w s : List ℕ) → invRounds n w (shiftRows (subBytes (rounds n w s))) ≡ shiftRows (subBytes (rounds 0 w s))
+rounds-undone zero w s = refl
+rounds-undone (suc n) w s = ap (invRounds n w) (round-undone (rounds n w s) (roundKey w (suc n))) ∙ rounds-undone n w s
 
-long-rounds : (n : ℕ) (w s : List ℕ) → length (rounds n w s) ≡ 16
-unfolding round
-long-rounds zero w s = long-key s (roundKey w 0)
-long-rounds (suc n) w s = long-key (mixColumns (shiftRows (subBytes (rounds n w s)))) (roundKey w (suc n))
-
-rounds-undone : (n : ℕ) (w s : List ℕ) → Small s
-    → invRounds n w (shiftRows (subBytes (rounds n w s))) ≡ shiftRows (subBytes (rounds 0 w s))
-rounds-undone zero w s h = refl
-rounds-undone (suc n) w s h =
-    ap (invRounds n w) (round-undone (rounds n w s) (roundKey w (suc n)) (small-rounds n w s h)) ∙ rounds-undone n w s h
-
-cipher-undone : (nr : ℕ) (w s : List ℕ) → length s ≡ 16 → Small s → invCipher nr w (cipher nr w s) ≡ s
-unfolding invCipher cipher lastRound invLastRound
+cipher-undone : (nr : ℕ) (w s : List ℕ) → length s ≡ 16 → Small s → invCipher (cipher s nr w) nr w ≡ s
+unfolding invCipher cipher lastRound
 cipher-undone nr w s l h =
     let n = nr - 1 in
-    let t = rounds 0 w s in
-    ap (λ u. addRoundKey (invSubBytes (invShiftRows (invRounds n w u))) (roundKey w 0)) (key-undone (shiftRows (subBytes (rounds n w s))) (roundKey w nr) refl)
-    ∙ ap (λ u. addRoundKey (invSubBytes (invShiftRows u)) (roundKey w 0)) (rounds-undone n w s h)
-    ∙ ap (λ u. addRoundKey u (roundKey w 0)) (shifted-undone t (long-rounds 0 w s) (small-rounds 0 w s h))
-    ∙ key-undone s (roundKey w 0) l
+    let k = roundKey w 0 in
+    ap (λ u. addRoundKey (invSubBytes (invShiftRows (invRounds n w u))) k) (key-undone (shiftRows (subBytes (rounds n w s))) (roundKey w nr) refl)
+    ∙ ap (λ u. addRoundKey (invSubBytes (invShiftRows u)) k) (rounds-undone n w s)
+    ∙ ap (λ u. addRoundKey u k) (shifted-undone (addRoundKey s k) (long-key s k) (small-key s k h))
+    ∙ key-undone s k l
 
-cipher-bytes : (nr : ℕ) (w s : List ℕ) → Small s → Bytes 16 (cipher nr w s)
+cipher-bytes : (nr : ℕ) (w s : List ℕ) → Bytes 16 (cipher s nr w)
 unfolding cipher lastRound
-cipher-bytes nr w s h =
+cipher-bytes nr w s =
     let t = rounds (nr - 1) w s in
     record {
       long = long-key (shiftRows (subBytes t)) (roundKey w nr);
-      small = small-key (shiftRows (subBytes t)) (roundKey w nr) (small-shifted t (small-rounds (nr - 1) w s h));
+      small = small-key (shiftRows (subBytes t)) (roundKey w nr) (small-shifted t);
     }
 
 pub laws : Laws theModel
@@ -134,6 +113,6 @@ unfolding enc256 dec256
 laws = record {
   blocks = inr refl;
   keys = inr refl;
-  made = λ key b k h. cipher-bytes 14 (keyExpansion 8 14 key) b (h .small);
+  made = λ key b k h. cipher-bytes 14 (keyExpansion 8 14 key) b;
   undo = λ key b k h. cipher-undone 14 (keyExpansion 8 14 key) b (h .long) (h .small);
 }

@@ -1,6 +1,6 @@
 -- A column that is the sum of four look-ups, each rotated into its row. Assumes nothing.
 use mathlib.Core.Path.{_≡_, ap, _∙_}
-use mathlib.Core.List.{List, [], _∷_}
+use mathlib.Core.List.{[], _∷_}
 use Prim.Native.Nat.{ℕ, _-_, _*_, _/_, _%_, _^_, _<_}
 use lib.Bits.{bitOr}
 use Rattle.cipher.specs.Bytes.{wordBytes}

@@ -1,6 +1,6 @@
 -- InvMixColumns undoes MixColumns on a column. Assumes nothing.
 use mathlib.Core.Path.{_≡_, _∙_}
-use mathlib.Core.List.{List, [], _∷_}
+use mathlib.Core.List.{[], _∷_}
 use Prim.Native.Nat.{ℕ, _<_}
 use Rattle.aes.specs.Field.{_⊕_, _•_, xTimes}
 use Rattle.aes.specs.Aes.{product, circulant}

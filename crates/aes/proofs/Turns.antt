@@ -28,7 +28,7 @@ bytes-xor4 v w x y p q r s =
     let three = bytes-xor (v ⊕ w) x ∙ (λ j. sum4 (two j) (r j)) in
     bytes-xor (v ⊕ w ⊕ x) y ∙ (λ j. sum4 (three j) (s j))
 
--- the word of four bytes, rotated right by one, two and three bytes, and left by one
+-- the word of four bytes, rotated right by one, two and three bytes
 module _ (a b c d : ℕ) (p : a < 256) (q : b < 256) (r : c < 256) (s : d < 256) where
   pub right1 : bitOr (word4 a b c d / 2 ^ 8) (word4 a b c d * 2 ^ 24 % 2 ^ 32) ≡ word4 d a b c
   right1 =

@@ -1,4 +1,4 @@
--- AES (FIPS 197, section 5). Assumes nothing.
+-- AES (FIPS 197 of 2023, section 5). Assumes nothing.
 -- A state is a list of 16 bytes: byte i stands in row i mod 4, column i div 4.
 use mathlib.Core.Bool.{cond, _&&_}
 use mathlib.Core.List.{List, [], _∷_, _++_, map}
@@ -72,8 +72,8 @@ unfoldable pub lastRound : List ℕ → List ℕ → List ℕ
 lastRound s k = addRoundKey (shiftRows (subBytes s)) k
 
 -- Cipher (5.1), of nr rounds
-unfoldable pub cipher : ℕ → List ℕ → List ℕ → List ℕ
-cipher nr w s = lastRound (rounds (nr - 1) w s) (roundKey w nr)
+unfoldable pub cipher : List ℕ → ℕ → List ℕ → List ℕ
+cipher s nr w = lastRound (rounds (nr - 1) w s) (roundKey w nr)
 
 -- RotWord (5.2)
 abbrev pub rotWord : ℕ → ℕ
@@ -108,7 +108,7 @@ keyExpansion nk nr key = expanded nk (4 * (nr + 1) - nk) key
 abbrev pub invShiftRows : List ℕ → List ℕ
 invShiftRows s = state (λ r c. at s r ((c + 4 - r) % 4))
 
--- InvSBox (5.3.2): the inverse of the affine map, and then the inverse in the field
+-- InvSBox (5.3.2): the affine map undone, and then the inverse in the field
 unfoldable pub invSBox : ℕ → ℕ
 invSBox y = inverse (rotated 1 y ⊕ rotated 3 y ⊕ rotated 6 y ⊕ 0x05)
 
@@ -129,20 +129,17 @@ abbrev pub invRounds : ℕ → List ℕ → List ℕ → List ℕ
 invRounds zero w s = s
 invRounds (suc n) w s = invRounds n w (invRound s (roundKey w (suc n)))
 
--- the last round of InvCipher
-unfoldable pub invLastRound : List ℕ → List ℕ → List ℕ
-invLastRound s k = addRoundKey (invSubBytes (invShiftRows s)) k
-
 -- InvCipher (5.3), of nr rounds
-unfoldable pub invCipher : ℕ → List ℕ → List ℕ → List ℕ
-invCipher nr w s = invLastRound (invRounds (nr - 1) w (addRoundKey s (roundKey w nr))) (roundKey w 0)
+unfoldable pub invCipher : List ℕ → ℕ → List ℕ → List ℕ
+invCipher s nr w =
+    addRoundKey (invSubBytes (invShiftRows (invRounds (nr - 1) w (addRoundKey s (roundKey w nr))))) (roundKey w 0)
 
 -- AES-256 (section 5): keys of 8 words, and 14 rounds
 unfoldable pub enc256 : List ℕ → List ℕ → List ℕ
-enc256 key b = cipher 14 (keyExpansion 8 14 key) b
+enc256 key b = cipher b 14 (keyExpansion 8 14 key)
 
 unfoldable pub dec256 : List ℕ → List ℕ → List ℕ
-dec256 key b = invCipher 14 (keyExpansion 8 14 key) b
+dec256 key b = invCipher b 14 (keyExpansion 8 14 key)
 
 abbrev pub theModel : Model
 theModel = record { block = 16; key = 32; enc = enc256; dec = dec256 }

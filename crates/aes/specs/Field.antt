@@ -1,10 +1,9 @@
--- The field of bytes modulo 11B (FIPS 197, section 4). Assumes nothing.
+-- The field of bytes modulo 11B (FIPS 197 of 2023, section 4). Assumes nothing.
 use Prim.Native.Nat.{ℕ, zero, suc, _*_, _/_, _%_, _^_}
 use lib.Bits.{bitXor}
 
-infixl 68 _⊕_
-infixl 70 _•_
 -- addition (4.1)
+infixl 68 _⊕_
 abbrev pub _⊕_ : ℕ → ℕ → ℕ
 _⊕_ a b = bitXor a b
 
@@ -18,6 +17,7 @@ times zero c a = 0
 times (suc n) c a = c % 2 * a ⊕ times n (c / 2) (xTimes a)
 
 -- multiplication (4.2)
+infixl 70 _•_
 unfoldable pub _•_ : ℕ → ℕ → ℕ
 _•_ c a = times 8 c a
 

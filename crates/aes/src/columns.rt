@@ -1,11 +1,10 @@
 // The state in four words, a word for each column.
 ghost use mathlib.Core.Path.{_≡_};
-ghost use mathlib.Core.List.{[], _∷_};
 ghost use Prim.Native.Nat.{_+_, _*_, _<_};
-ghost use lib.ListN.{length, getD};
+ghost use lib.ListN.{length};
 ghost use Rattle.cipher.specs.Bytes.{word as wordOf, wordBytes};
 ghost use Rattle.aes.specs.Aes.{addRoundKey, roundKey};
-ghost use Rattle.aes.specs.Words.{stateOf, wordsOf};
+ghost use Rattle.aes.specs.Words.{fourAt, stateOf, wordsOf};
 use cipher::BlockBuffer;
 
 pub(crate) type State = (u32, u32, u32, u32);
@@ -16,7 +15,7 @@ pub(crate) type RoundKey = (u32, u32, u32, u32);
 pub(crate) fn word(b: &[u8], i: usize) -> u32
     requires { ⌜ i + 3 < length (now b) ⌝ }
     ensures value { λ r. ⌜ r ≡ wordOf (now (b .entry)) i ⌝ }
-    ensures bytes { λ r. ⌜ wordBytes r ≡ getD (now (b .entry)) i 0 ∷ getD (now (b .entry)) (i + 1) 0 ∷ getD (now (b .entry)) (i + 2) 0 ∷ getD (now (b .entry)) (i + 3) 0 ∷ [] ⌝ }
+    ensures bytes { λ r. ⌜ wordBytes r ≡ fourAt (now (b .entry)) i ⌝ }
 {
     u32::from_be_bytes([b[i], b[i + 1], b[i + 2], b[i + 3]])
 }

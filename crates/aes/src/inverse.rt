@@ -4,15 +4,16 @@ ghost use mathlib.Core.List.{[], _∷_, map};
 ghost use Prim.Native.Nat.{_+_, _*_, _<_};
 ghost use lib.ListN.{length};
 ghost use Rattle.cipher.specs.Bytes.{wordBytes};
-ghost use Rattle.aes.specs.Aes.{circulant, invShiftRows, invSBox, invSubBytes, invMixColumns, invCipher};
+ghost use Rattle.aes.specs.Aes.{circulant, invShiftRows, invSBox, invSubBytes, invMixColumns, invRound, invCipher};
 ghost use Rattle.aes.specs.Words.{stateOf, wordsOf};
+use crate::columns::RoundKey;
 use crate::columns::State;
 use crate::columns::add_round_key;
 use crate::columns::from_bytes;
 use crate::columns::round_key;
 use crate::columns::to_bytes;
-use crate::tables::inv_mix;
-use crate::tables::inv_s_box;
+use crate::inverse_tables::inv_mix;
+use crate::inverse_tables::inv_s_box;
 use cipher::BlockBuffer;
 
 // InvSubBytes of a column.
@@ -60,14 +61,20 @@ fn inv_mix_columns(s: State) -> State
     )
 }
 
+fn inv_round(s: State, k: RoundKey) -> State
+    ensures { λ r. ⌜ stateOf r ≡ invRound (stateOf s) (wordsOf k) ⌝ }
+{
+    inv_mix_columns(add_round_key(inv_shift_sub(s), k))
+}
+
 // InvCipher, of nr rounds, with the words w of an expanded key.
 pub(crate) fn inv_cipher(block: &BlockBuffer, nr: usize, w: &[u32]) -> BlockBuffer
     requires { ⌜ 0 < nr ⌝ ∗ ⌜ 4 * nr + 3 < length (now w) ⌝ }
-    ensures { λ r. ⌜ r ≡ invCipher nr (now (w .entry)) (now (block .entry)) ⌝ }
+    ensures { λ r. ⌜ r ≡ invCipher (now (block .entry)) nr (now (w .entry)) ⌝ }
 {
     let mut s = add_round_key(from_bytes(block), round_key(w, nr));
     for n in (1..nr).rev() {
-        s = inv_mix_columns(add_round_key(inv_shift_sub(s), round_key(w, n)));
+        s = inv_round(s, round_key(w, n));
     }
     to_bytes(add_round_key(inv_shift_sub(s), round_key(w, 0)))
 }

@@ -1,6 +1,7 @@
 // AES-256 (FIPS 197).
 mod columns;
 mod inverse;
+mod inverse_tables;
 mod rounds;
 mod schedule;
 mod tables;
@@ -19,11 +20,14 @@ const NK: usize = 8;
 // The rounds.
 const NR: usize = 14;
 
+// The words of the round keys.
+const WORDS: usize = 4 * (NR + 1);
+
 // AES-256 under a key, which is the first words of its expansion.
 #[derive(Drop)]
 pub struct Aes256 {
-    words: [u32; 60],
-    ghost expanded: { words ≡ keyExpansion 8 14 (keyOf (take 8 words)) },
+    words: [u32; WORDS],
+    ghost made: { words ≡ keyExpansion 8 14 (keyOf (take 8 words)) },
 }
 
 pub impl BlockCipher for Aes256 as AesCipher {
@@ -40,7 +44,7 @@ pub impl BlockCipher for Aes256 as AesCipher {
     }
 
     fn schedule(key: &KeyBuffer) -> Aes256 {
-        let mut words = [0; 60];
+        let mut words = [0; WORDS];
         schedule::key_expansion(key, NK, &mut words);
         Aes256 { words }
     }

@@ -60,7 +60,7 @@ fn last_round(s: State, k: RoundKey) -> State
 // Cipher, of nr rounds, with the words w of an expanded key.
 pub(crate) fn cipher(block: &BlockBuffer, nr: usize, w: &[u32]) -> BlockBuffer
     requires { ⌜ 0 < nr ⌝ ∗ ⌜ 4 * nr + 3 < length (now w) ⌝ }
-    ensures { λ r. ⌜ r ≡ cipherOf nr (now (w .entry)) (now (block .entry)) ⌝ }
+    ensures { λ r. ⌜ r ≡ cipherOf (now (block .entry)) nr (now (w .entry)) ⌝ }
 {
     let mut s = add_round_key(from_bytes(block), round_key(w, 0));
     for n in 1..nr {

@@ -1,6 +1,6 @@
 // KeyExpansion, which makes the words of the round keys.
 ghost use mathlib.Core.Path.{_≡_};
-ghost use Prim.Native.Nat.{_+_, _-_, _*_, _<_, _≤_};
+ghost use Prim.Native.Nat.{_-_, _*_, _<_, _≤_};
 ghost use lib.ListN.{length, take};
 ghost use Rattle.aes.specs.Aes.{rotWord, subWord, temp as tempOf, expanded};
 ghost use Rattle.aes.specs.Words.{keyOf};

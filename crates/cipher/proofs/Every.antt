@@ -4,7 +4,7 @@ use mathlib.Core.Bool.{Bool, true, false, _&&_}
 use mathlib.Core.List.{List, [], _∷_}
 use Prim.Native.Nat.{ℕ, zero, suc, _+_, _<_}
 use native.Mathlib.Nat.{add-zero, zero-add, add-suc, suc-add, le-of-suc-le-suc, not-suc-le-zero}
-use lib.Dec.{T}
+use lib.Dec.{T, eqb, eqb→eq}
 use lib.ListN.{length, getD}
 use Rattle.cipher.specs.Tables.{every}
 
@@ -25,3 +25,8 @@ from f (x ∷ xs) i t (suc k) h =
 
 pub at : (f : ℕ → ℕ → Bool) (xs : List ℕ) → T (every f 0 xs) → (k : ℕ) → k < length xs → T (f k (getD xs k 0))
 at f xs t k h = subst (λ (m : ℕ). T (f m (getD xs k 0))) (zero-add k) (from f xs 0 t k h)
+
+-- a table that has at each place what a rule says
+pub tabled : (rule : ℕ → ℕ) (k : ℕ) (table : List ℕ)
+    → T (every (λ i x. eqb x (rule i)) 0 table) → k < length table → getD table k 0 ≡ rule k
+tabled rule k table t h = eqb→eq (getD table k 0) (rule k) (at (λ i x. eqb x (rule i)) table t k h)

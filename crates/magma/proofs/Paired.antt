@@ -1,20 +1,14 @@
 -- Two rows at a time. Assumes nothing.
 use mathlib.Core.Path.{_≡_, sym, ap, _∙_}
 use mathlib.Core.List.{List, [], _∷_}
-use Prim.Native.Nat.{ℕ, _+_, _*_, _/_, _%_, _<_}
+use Prim.Native.Nat.{ℕ, _+_, _*_, _/_, _%_}
 use native.Mathlib.Omega.{arith}
-use lib.Dec.{T, eqb, eqb→eq}
-use lib.ListN.{length, getD}
+use lib.ListN.{getD}
 use Rattle.std.proofs.shelf.Bits.{shr-shr, field-of}
 use Rattle.cipher.specs.Bytes.{wordBytes}
-use Rattle.cipher.proofs.Every.{at}
 use Rattle.cipher.proofs.Words.{word4}
 use Rattle.magma.specs.Magma.{Pi', substituted, t}
-use Rattle.magma.specs.Pairs.{pair, paired}
-
--- what the test of a table gives
-pub looked-up : (i : ℕ) (table : List ℕ) → T (paired i table) → (b : ℕ) → b < length table → getD table b 0 ≡ pair i b
-looked-up i table h b l = eqb→eq (getD table b 0) (pair i b) (at (λ b x. eqb x (pair i b)) table h b l)
+use Rattle.magma.specs.Pairs.{pair}
 
 -- a byte by two rows, the rest by the others
 two : (r s : List ℕ) (more : List (List ℕ)) (a : ℕ)

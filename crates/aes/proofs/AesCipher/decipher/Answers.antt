@@ -13,5 +13,5 @@ unfolding dec256
 returns c =
     let b = c .args .block .now in
     let self = c .args .self .now in
-    c .inv-cipher .ensures ∙ ap (λ (w : List ℕ). invCipher 14 w b) (self .expanded)
+    c .inv-cipher .ensures ∙ ap (λ (w : List ℕ). invCipher b 14 w) (self .made)
     ∙ sym (whole (dec256 (keyOf (take 8 (self .words)))) b (omega arith))

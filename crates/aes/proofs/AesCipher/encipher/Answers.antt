@@ -13,5 +13,5 @@ unfolding enc256
 returns c =
     let b = c .args .block .now in
     let self = c .args .self .now in
-    c .cipher .ensures ∙ ap (λ (w : List ℕ). cipher 14 w b) (self .expanded)
+    c .cipher .ensures ∙ ap (λ (w : List ℕ). cipher b 14 w) (self .made)
     ∙ sym (whole (enc256 (keyOf (take 8 (self .words)))) b (omega arith))

@@ -6,6 +6,5 @@ use Rattle.aes.proofs.inverse.inv_sub_bytes.Needs as need
 
 pub returns : need.returns
 returns c =
-    let f = c .fits in
     ap wordBytes (c .from-be-bytes .ensures ∙ (λ j. word4 (c .inv-s-box .ensures .value j) (c .inv-s-box-2 .ensures .value j) (c .inv-s-box-3 .ensures .value j) (c .inv-s-box-4 .ensures .value j)))
-    ∙ bytes-word4 _ _ _ _ (invSBox-below _ (f .a .fits)) (invSBox-below _ (f .b .fits)) (invSBox-below _ (f .c .fits)) (invSBox-below _ (f .d .fits))
+    ∙ bytes-word4 _ _ _ _ (invSBox-below _) (invSBox-below _) (invSBox-below _) (invSBox-below _)

@@ -1,5 +1,5 @@
 use mathlib.Core.Path.{_≡_, ap, sym, _∙_}
-use Prim.Native.Nat.{ℕ, suc, _+_, _-_}
+use Prim.Native.Nat.{suc, _+_, _-_}
 use native.Mathlib.Omega.{arith}
 use Rattle.aes.specs.Aes.{addRoundKey, roundKey, round, rounds, lastRound, cipher}
 use Rattle.aes.proofs.rounds.cipher.Needs as need

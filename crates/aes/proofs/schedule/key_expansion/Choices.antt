@@ -1,6 +1,6 @@
 use mathlib.Core.Path.{_≡_}
 use mathlib.Core.List.{map}
-use Prim.Native.Nat.{ℕ, _-_, _*_}
+use Prim.Native.Nat.{_-_, _*_}
 use lib.ListN.{take}
 use Rattle.std.specs.Iters.{counting}
 use Rattle.cipher.specs.Bytes.{word}

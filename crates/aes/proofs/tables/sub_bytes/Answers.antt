@@ -6,9 +6,8 @@ use Rattle.aes.proofs.tables.sub_bytes.Needs as need
 
 pub returns : need.returns
 returns c =
-    let f = c .fits in
     let value = c .from-be-bytes .ensures ∙ (λ j. word4 (c .s-box .ensures .value j) (c .s-box-2 .ensures .value j) (c .s-box-3 .ensures .value j) (c .s-box-4 .ensures .value j)) in
     record {
       value = value;
-      bytes = ap wordBytes value ∙ bytes-word4 _ _ _ _ (sBox-below _ (f .a .fits)) (sBox-below _ (f .b .fits)) (sBox-below _ (f .c .fits)) (sBox-below _ (f .d .fits));
+      bytes = ap wordBytes value ∙ bytes-word4 _ _ _ _ (sBox-below _) (sBox-below _) (sBox-below _) (sBox-below _);
     }

@@ -1,6 +1,7 @@
 use native.Mathlib.Omega.{arith}
-use Rattle.magma.proofs.Paired.{looked-up}
+use Rattle.cipher.proofs.Every.{tabled}
+use Rattle.magma.specs.Pairs.{pair}
 use Rattle.magma.proofs.substitution.by_table.Needs as need
 
 pub returns : need.returns
-returns g c = looked-up (g .I) (c .args .table .now) (c .pre) (c .args .b) (omega arith)
+returns g c = tabled (pair (g .I)) (c .args .b) (c .args .table .now) (c .pre) (omega arith)
