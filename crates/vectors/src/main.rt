@@ -3,6 +3,11 @@ mod answer;
 mod kinds;
 mod request;
 
+ghost use mathlib.Core.Path.{_≡_};
+ghost use mathlib.Core.List.{[]};
+ghost use Rattle.std.specs.Of.Vec.{vec-items};
+ghost use Rattle.std.specs.Vec.{made};
+ghost use Rattle.vectors.specs.Lines.{kept};
 use answer::answer;
 use std::alloc::AllocError;
 use std::io;
@@ -12,7 +17,9 @@ use std::io::Read;
 const KEPT: usize = 4097;
 
 // Adds a byte to a line; what goes past the kept length is let go.
-fn keep(line: &mut Vec<u8>, byte: u8) -> Result<(), AllocError> {
+fn keep(line: &mut Vec<u8>, byte: u8) -> Result<(), AllocError>
+    ensures { λ r. ⌜ made r (λ _. vec-items (now (line .exit)) ≡ kept (vec-items (now (line .entry))) byte) ⌝ }
+{
     if line.len() < KEPT {
         line.push(byte)?;
     }
@@ -20,7 +27,9 @@ fn keep(line: &mut Vec<u8>, byte: u8) -> Result<(), AllocError> {
 }
 
 // Answers the line, and begins the next.
-fn finish(rt: &LibcRuntime, line: &mut Vec<u8>) -> io::Result<()> {
+fn finish(rt: &LibcRuntime, line: &mut Vec<u8>) -> io::Result<()>
+    ensures { λ r. ⌜ made r (λ _. vec-items (now (line .exit)) ≡ []) ⌝ }
+{
     let text = answer(rt.alloc(), line.as_slice())?;
     line.clear();
     println!(rt, "{text}")
