@@ -1,6 +1,9 @@
 // Numbers written in decimal digits.
 ghost use Rattle.text.specs.Numerals.{IsNumeral};
 
+// The largest number of 32 bits.
+const LARGEST: u64 = 0xFFFF_FFFF;
+
 // The number that the digits spell; none where there is no digit, another character, or a number past 32 bits.
 pub fn from_decimal(text: &[u8]) -> Option<u32>
     ensures { λ r. ⌜ IsNumeral (now (text .entry)) r ⌝ }
@@ -14,7 +17,7 @@ pub fn from_decimal(text: &[u8]) -> Option<u32>
             return None;
         }
         total = total * 10 + u64::from(*c - b'0');
-        if total > 0xFFFF_FFFF {
+        if total > LARGEST {
             return None;
         }
     }

@@ -7,12 +7,14 @@ ghost use Rattle.text.specs.Words.{TheWords, Cut};
 use std::alloc::AllocError;
 use std::alloc::Global;
 
+const BLANK: u8 = b' ';
+
 // The bytes before the first blank, and those after it.
 fn cut(text: &[u8]) -> Option<(&[u8], &[u8])>
     ensures { λ r. ⌜ Cut (now (text .entry)) r ⌝ }
 {
     for (i, b) in text.iter().enumerate() {
-        if *b == b' ' {
+        if *b == BLANK {
             return Some((&text[0..i], &text[i + 1..]));
         }
     }

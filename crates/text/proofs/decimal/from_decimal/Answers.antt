@@ -17,8 +17,8 @@ returns-then-c-lt48 c =
     no-digit (c .args .text .now) (c .loop-c .c-index) (omega arith)
     (elim (c .then-c-lt48 .came) [ then-c-lt48·by·then-c-lt48 w ↦ inl (w .if-c-lt48 .taken) | then-c-lt48·by·else-c-lt48·then-c-gt57 w ↦ inr (w .if-c-gt57 .taken) ])
 
-pub returns-then-total-gt4294967295 : need.returns-then-total-gt4294967295
-returns-then-total-gt4294967295 c =
+pub returns-then-total-gt-LARGEST : need.returns-then-total-gt-LARGEST
+returns-then-total-gt-LARGEST c =
     let text = c .args .text .now in
     let i = c .loop-c .c-index in
     let a = c .loop-c .total in

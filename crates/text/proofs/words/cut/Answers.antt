@@ -10,12 +10,12 @@ use Rattle.std.proofs.shelf.Elements.{all-more}
 use Rattle.text.specs.Words.{Word}
 use Rattle.text.proofs.words.cut.Needs as need
 
-pub returns-then-b-eq32 : need.returns-then-b-eq32
-returns-then-b-eq32 c =
+pub returns-then-b-eq-BLANK : need.returns-then-b-eq-BLANK
+returns-then-b-eq-BLANK c =
     let text = c .args .text .now in
     let i = c .loop-i .i in
     let front = sub-zero i in
-    let here : getD text i 0 ≡ 32 = c .if-b-eq32 .taken in
+    let here : getD text i 0 ≡ 32 = c .if-b-eq-BLANK .taken in
     let rest : drop i text ≡ 32 ∷ take (length text - (i + 1)) (drop (i + 1) text) =
     let after = sym (take-rest text (i + 1)) in
     drop-more text i 0 (omega arith) ∙ (λ j. here j ∷ after j) in
@@ -23,7 +23,7 @@ returns-then-b-eq32 c =
     (sym (take-append-drop i text) ∙ (λ j. take (back j) text ++ rest j), subst (λ k. Word (take k text)) back (c .loop-i .inv))
 
 pub loop-i-again : need.loop-i-again
-loop-i-again c = all-more (λ x. x ≡ 32 → ⊥) (c .args .text .now) (c .loop-i .i) 0 (omega arith) (c .loop-i .inv) (c .if-b-eq32 .left)
+loop-i-again c = all-more (λ x. x ≡ 32 → ⊥) (c .args .text .now) (c .loop-i .i) 0 (omega arith) (c .loop-i .inv) (c .if-b-eq-BLANK .left)
 
 pub returns : need.returns
 returns c = subst Word (take-all (c .loop-i .i) (c .args .text .now) (omega arith)) (c .loop-i .inv)
