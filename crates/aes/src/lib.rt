@@ -1,4 +1,6 @@
 // AES-256 (FIPS 197).
+#![tactic(auto)]
+
 mod columns;
 mod inverse;
 mod inverse_tables;

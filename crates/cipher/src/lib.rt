@@ -1,4 +1,6 @@
 // What a block cipher is, and how new keys are made with one.
+#![tactic(auto)]
+
 mod block_cipher;
 mod derivation;
 

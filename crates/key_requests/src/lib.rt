@@ -1,4 +1,6 @@
 // Requests for one key of a stack: the words of one, its answer, and the text of the answer.
+#![tactic(auto)]
+
 mod reading;
 mod request;
 mod telling;

@@ -1,4 +1,6 @@
 // Sources of keys.
+#![tactic(auto)]
+
 mod refusals;
 mod ring;
 mod root;

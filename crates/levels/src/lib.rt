@@ -1,4 +1,6 @@
 // A level on a source of keys, which is a source itself.
+#![tactic(auto)]
+
 mod level;
 mod maker;
 mod makings;

@@ -1,4 +1,6 @@
 // Magma, a block cipher on 8 bytes under a key of 32 (RFC 8891).
+#![tactic(auto)]
+
 mod pairs;
 mod rounds;
 mod rows;

@@ -1,4 +1,6 @@
 // The five kinds of level: how each makes keys of a key below.
+#![tactic(auto)]
+
 mod branch;
 mod chain;
 mod fan;

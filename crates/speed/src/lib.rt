@@ -1,4 +1,6 @@
 // Counter mode, for the benchmark of speed/run.
+#![tactic(auto)]
+
 ghost use Rattle.std.specs.Prelude.{◌≡◌, ◌+◌, ◌<◌, length, replicate};
 ghost use Rattle.cipher.specs.Bytes.{word as word_of};
 ghost use Rattle.aes.specs.Aes.{the_model};

@@ -1,4 +1,6 @@
 // The stacks that the programs name, and their keys.
+#![tactic(auto)]
+
 mod giving;
 mod plan;
 mod refusal;

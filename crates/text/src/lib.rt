@@ -1,4 +1,6 @@
 // Text as the programs here read and write it: hexadecimal, decimal numbers, and words.
+#![tactic(auto)]
+
 mod decimal;
 mod fault;
 mod hexadecimal;

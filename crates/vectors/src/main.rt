@@ -1,4 +1,6 @@
 // The known-answer program: a request a line in, an answer a line out.
+#![tactic(auto)]
+
 mod answer;
 mod kinds;
 mod request;
