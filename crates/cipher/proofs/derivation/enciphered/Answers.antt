@@ -11,8 +11,8 @@ returns g c =
     let n = m.block in
     let within = block_within m g.met.C.BlockCipher.laws in
     let part = c.write.new.block in
-    let post = drop (c.block-len-n.result - 0) (replicate 16 0) in
-    let wide : length (take (c.block-len-n.result - 0) (replicate 16 0)) ≡ n = simp length-take (omega arith) in
+    let post = drop (c.block_len-n.result - 0) (replicate 16 0) in
+    let wide : length (take (c.block_len-n.result - 0) (replicate 16 0)) ≡ n = simp length-take (omega arith) in
     let long : length part ≡ n = c.write.auto.block ∙ wide in
     let all : length (part ++ post) ≡ 16 = simp (length-append, length-drop) (omega arith) in
     front n _ (part ++ post) c.encipher.new.block c.encipher.ensures (omega arith) (omega arith)

@@ -16,15 +16,15 @@ slice-bounds-out-end g c =
 pub loop-j-preserved : goal.loop-j-preserved
 loop-j-preserved g c =
     let m = g.C.BlockCipher.model in
-    let n = c.block-len-n.result in
+    let n = c.block_len-n.result in
     let j = c.loop-j.j in
     let key = take m.key c.args.key.now in
-    let part = c.copy-from-slice.new.self in
-    let h : j * n + n ≤ 32 = told_within m g.met.C.BlockCipher.laws _ _ j c.block-len-n.ensures c.key-len.ensures c.loop-j-test.true in
-    let width : n - 0 ≡ m.block = omega (arith, c.block-len-n.ensures) in
-    let long : length part ≡ n = c.copy-from-slice.auto.self ∙ simp (length-take, length-drop) (omega (arith, c.loop-j.invariant.0)) in
+    let part = c.copy_from_slice.new.self in
+    let h : j * n + n ≤ 32 = told_within m g.met.C.BlockCipher.laws _ _ j c.block_len-n.ensures c.key_len.ensures c.loop-j-test.true in
+    let width : n - 0 ≡ m.block = omega (arith, c.block_len-n.ensures) in
+    let long : length part ≡ n = c.copy_from_slice.auto.self ∙ simp (length-take, length-drop) (omega (arith, c.loop-j.invariant.0)) in
     let is : part ≡ m.enc key (block m.block c.args.blocks j) =
-    c.copy-from-slice.ensures.after ∙ ap (λ k. take k c.enciphered-block.result) width ∙ c.enciphered-block.ensures
+    c.copy_from_slice.ensures.after ∙ ap (λ k. take k c.enciphered-block.result) width ∙ c.enciphered-block.ensures
     ∙ ap (λ k. m.enc k (block m.block c.args.blocks j)) c.schedule-cipher.ensures in
     joined_step (λ i. m.enc key (block m.block c.args.blocks i)) n j c.loop-j.out part h c.loop-j.invariant.0 long is c.loop-j.invariant.1
 
@@ -32,9 +32,9 @@ pub returns : goal.returns
 unfolding made
 returns g c =
     let m = g.C.BlockCipher.model in
-    let n = c.block-len-n.ensures in
-    let told : c.loop-j.j ≡ c.key-len.result / c.block-len-n.result = omega arith in
-    let j : c.loop-j.j ≡ parts m = told ∙ (λ i. c.key-len.ensures i / n i) in
+    let n = c.block_len-n.ensures in
+    let told : c.loop-j.j ≡ c.key_len.result / c.block_len-n.result = omega arith in
+    let j : c.loop-j.j ≡ parts m = told ∙ (λ i. c.key_len.ensures i / n i) in
     let f : ℕ → List ℕ = λ i. m.enc (take m.key c.args.key.now) (block m.block c.args.blocks i) in
     let x : List ℕ = flat_map f (range_with_len 0 (parts m)) in
     let zeros : List ℕ = replicate (32 - m.key) 0 in

@@ -16,7 +16,7 @@ returns-in-err-low c =
 pub loop-i-preserved : goal.loop-i-preserved
 loop-i-preserved c = (
   c.loop-i.invariant.0,
-  rw c.in-ok-push.ensures.items
-      (front_more c.args.text.now (vec_items c.loop-i.bytes) c.loop-i.i c.in-ok-high.high c.in-ok-low.low
-      c.in-ok-high.ensures c.in-ok-low.ensures c.loop-i.invariant.1),
+  rw c.in_ok-push.ensures.items
+      (front_more c.args.text.now (vec_items c.loop-i.bytes) c.loop-i.i c.in_ok-high.high c.in_ok-low.low
+      c.in_ok-high.ensures c.in_ok-low.ensures c.loop-i.invariant.1),
 )

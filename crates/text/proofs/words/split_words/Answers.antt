@@ -22,7 +22,7 @@ kept line all after w ws e h =
 pub loop-word-preserved : goal.loop-word-preserved
 loop-word-preserved c = λ ws h.
     let s = c.in-Some.ensures in
-    kept c.args.line.now (vec_items c.loop-word.all) (vec_items c.push.new.self) c.in-Some.word ws c.in-ok-push.ensures.items
+    kept c.args.line.now (vec_items c.loop-word.all) (vec_items c.push.new.self) c.in-Some.word ws c.in_ok-push.ensures.items
     (c.loop-word.invariant (c.in-Some.word.now ∷ ws) (words_more c.loop-word.rest.now c.in-Some.word.now c.in-Some.after.now ws s.0 s.1 h))
 
 pub returns : goal.returns
@@ -31,6 +31,6 @@ returns c =
     let all = vec_items c.push-2.new.self in
     let are : Words line (map (λ x. x.now) all) =
     subst (Words line) (append-nil (map (λ x. x.now) all))
-    (kept line (vec_items c.loop-word.all) all c.loop-word.rest [] c.in-ok-push-2.ensures.items
-    (c.loop-word.invariant (c.loop-word.rest.now ∷ []) (words_one c.loop-word.rest.now c.in-default.ensures))) in
+    (kept line (vec_items c.loop-word.all) all c.loop-word.rest [] c.in_ok-push-2.ensures.items
+    (c.loop-word.invariant (c.loop-word.rest.now ∷ []) (words_one c.loop-word.rest.now c.in_default.ensures))) in
     record { are = are; only = λ vs h. words_same line vs (map (λ x. x.now) all) h are }

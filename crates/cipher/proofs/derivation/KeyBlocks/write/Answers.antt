@@ -8,4 +8,4 @@ overflow-add-t c = let small = c.requires.1 in omega arith
 
 pub returns-in-Constants : goal.returns-in-Constants
 unfolding constant
-returns-in-Constants c = c.write-ascending.ensures ∙ ap (λ s. block (length c.args.block.now) s c.args.j) (sym c.in-Constants.is)
+returns-in-Constants c = c.write_ascending.ensures ∙ ap (λ s. block (length c.args.block.now) s c.args.j) (sym c.in-Constants.is)
