@@ -9,5 +9,5 @@ unfolding dec256
 returns c =
     let b = c.args.block.now in
     let self = c.args.self.now in
-    c.inv-cipher.ensures ∙ ap (λ (w : List ℕ). inv_cipher b 14 w) self.made
+    c.inv_cipher.ensures ∙ ap (λ (w : List ℕ). inv_cipher b 14 w) self.made
     ∙ sym (whole (dec256 (key_of (take 8 self.words))) b (omega arith))

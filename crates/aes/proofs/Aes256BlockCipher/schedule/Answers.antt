@@ -3,13 +3,13 @@ use Rattle.std.proofs.lemmas.List.{take_all}
 use Rattle.aes.specs.Aes.{expanded}
 use Rattle.aes.proofs.Aes256BlockCipher.schedule.Goals as goal
 
-pub invariant-of-result : goal.invariant-of-result
-invariant-of-result c =
+pub invariant_of-result : goal.invariant_of-result
+invariant_of-result c =
     let key = c.args.key.now in (
-      c.key-expansion.ensures.words
-          ∙ ap (expanded 8 52) (sym (take_all 32 key (omega arith)) ∙ sym c.key-expansion.ensures.front),
+      c.key_expansion.ensures.words
+          ∙ ap (expanded 8 52) (sym (take_all 32 key (omega arith)) ∙ sym c.key_expansion.ensures.front),
       tt,
     )
 
 pub returns : goal.returns
-returns c = c.key-expansion.ensures.front
+returns c = c.key_expansion.ensures.front

@@ -8,6 +8,6 @@ returns c =
     let b = c.type-inv.b in
     let i = c.args.i in
     record {
-      value = c.from-be-bytes.ensures;
-      bytes = ap word_bytes c.from-be-bytes.ensures ∙ bytes_word4 _ _ _ _ (b i).fits (b (i + 1)).fits (b (i + 2)).fits (b (i + 3)).fits;
+      value = c.from_be_bytes.ensures;
+      bytes = ap word_bytes c.from_be_bytes.ensures ∙ bytes_word4 _ _ _ _ (b i).fits (b (i + 1)).fits (b (i + 2)).fits (b (i + 3)).fits;
     }

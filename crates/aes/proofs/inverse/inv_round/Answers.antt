@@ -6,5 +6,5 @@ use Rattle.aes.proofs.inverse.inv_round.Goals as goal
 pub returns : goal.returns
 unfolding inv_round
 returns c =
-    let s = c.inv-shift-sub.ensures in
-    c.inv-mix-columns.ensures ∙ ap inv_mix_columns (c.add-round-key.ensures ∙ ap (λ t. add_round_key t (words_of c.args.k)) s)
+    let s = c.inv_shift_sub.ensures in
+    c.inv_mix_columns.ensures ∙ ap inv_mix_columns (c.add_round_key.ensures ∙ ap (λ t. add_round_key t (words_of c.args.k)) s)

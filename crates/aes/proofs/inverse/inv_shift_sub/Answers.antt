@@ -8,6 +8,6 @@ pub returns : goal.returns
 unfolding state_of
 returns c =
     unshifted (map inv_s_box) c.args.s
-    c.to-be-bytes.ensures c.to-be-bytes-2.ensures c.to-be-bytes-3.ensures c.to-be-bytes-4.ensures
-    c.inv-sub-bytes.result c.inv-sub-bytes-2.result c.inv-sub-bytes-3.result c.inv-sub-bytes-4.result
-    c.inv-sub-bytes.ensures c.inv-sub-bytes-2.ensures c.inv-sub-bytes-3.ensures c.inv-sub-bytes-4.ensures
+    c.to_be_bytes.ensures c.to_be_bytes-2.ensures c.to_be_bytes-3.ensures c.to_be_bytes-4.ensures
+    c.inv_sub_bytes.result c.inv_sub_bytes-2.result c.inv_sub_bytes-3.result c.inv_sub_bytes-4.result
+    c.inv_sub_bytes.ensures c.inv_sub_bytes-2.ensures c.inv_sub_bytes-3.ensures c.inv_sub_bytes-4.ensures

@@ -6,5 +6,5 @@ use Rattle.aes.proofs.inverse.inv_sub_bytes.Goals as goal
 
 pub returns : goal.returns
 returns c =
-    ap word_bytes (c.from-be-bytes.ensures ∙ (λ j. word4 (c.inv-s-box.ensures.value j) (c.inv-s-box-2.ensures.value j) (c.inv-s-box-3.ensures.value j) (c.inv-s-box-4.ensures.value j)))
+    ap word_bytes (c.from_be_bytes.ensures ∙ (λ j. word4 (c.inv_s_box.ensures.value j) (c.inv_s_box-2.ensures.value j) (c.inv_s_box-3.ensures.value j) (c.inv_s_box-4.ensures.value j)))
     ∙ bytes_word4 _ _ _ _ (inv_s_box_below _) (inv_s_box_below _) (inv_s_box_below _) (inv_s_box_below _)

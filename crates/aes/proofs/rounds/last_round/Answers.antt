@@ -8,6 +8,6 @@ pub returns : goal.returns
 unfolding state_of last_round add_round_key
 returns c =
     shifted (map s_box) c.args.s
-    c.to-be-bytes.ensures c.to-be-bytes-2.ensures c.to-be-bytes-3.ensures c.to-be-bytes-4.ensures
-    c.sub-bytes.result c.sub-bytes-2.result c.sub-bytes-3.result c.sub-bytes-4.result c.args.k
-    c.sub-bytes.ensures.bytes c.sub-bytes-2.ensures.bytes c.sub-bytes-3.ensures.bytes c.sub-bytes-4.ensures.bytes
+    c.to_be_bytes.ensures c.to_be_bytes-2.ensures c.to_be_bytes-3.ensures c.to_be_bytes-4.ensures
+    c.sub_bytes.result c.sub_bytes-2.result c.sub_bytes-3.result c.sub_bytes-4.result c.args.k
+    c.sub_bytes.ensures.bytes c.sub_bytes-2.ensures.bytes c.sub_bytes-3.ensures.bytes c.sub_bytes-4.ensures.bytes

@@ -7,5 +7,5 @@ pub returns : goal.returns
 returns c =
     looked_up 2 1 1 3 (s_box c.args.a) (s_box c.args.b) (s_box c.args.c) (s_box c.args.d)
     (s_box_below _) (s_box_below _) (s_box_below _) (s_box_below _)
-    c.sub-mix.ensures c.sub-mix-2.ensures c.sub-mix-3.ensures c.sub-mix-4.ensures
-    c.rotate-right.ensures c.rotate-right-2.ensures c.rotate-right-3.ensures
+    c.sub_mix.ensures c.sub_mix-2.ensures c.sub_mix-3.ensures c.sub_mix-4.ensures
+    c.rotate_right.ensures c.rotate_right-2.ensures c.rotate_right-3.ensures

@@ -8,6 +8,6 @@ pub returns : goal.returns
 unfolding state_of round add_round_key
 returns c =
     shifted (λ b. circulant 2 3 1 1 (map s_box b)) c.args.s
-    c.to-be-bytes.ensures c.to-be-bytes-2.ensures c.to-be-bytes-3.ensures c.to-be-bytes-4.ensures
-    c.mix-column.result c.mix-column-2.result c.mix-column-3.result c.mix-column-4.result c.args.k
-    c.mix-column.ensures c.mix-column-2.ensures c.mix-column-3.ensures c.mix-column-4.ensures
+    c.to_be_bytes.ensures c.to_be_bytes-2.ensures c.to_be_bytes-3.ensures c.to_be_bytes-4.ensures
+    c.mix_column.result c.mix_column-2.result c.mix_column-3.result c.mix_column-4.result c.args.k
+    c.mix_column.ensures c.mix_column-2.ensures c.mix_column-3.ensures c.mix_column-4.ensures

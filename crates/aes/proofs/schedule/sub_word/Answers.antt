@@ -5,4 +5,4 @@ use Rattle.aes.specs.States.{diagonal}
 use Rattle.aes.proofs.schedule.sub_word.Goals as goal
 
 pub returns : goal.returns
-returns c = c.sub-bytes.ensures.value ∙ ap (λ b. word (map s_box (diagonal b b b b)) 0) c.to-be-bytes.ensures
+returns c = c.sub_bytes.ensures.value ∙ ap (λ b. word (map s_box (diagonal b b b b)) 0) c.to_be_bytes.ensures

@@ -16,14 +16,14 @@ rcon-requires c =
 pub returns-then-i-nk-eq0 : goal.returns-then-i-nk-eq0
 unfolding temp
 returns-then-i-nk-eq0 c =
-    let s = c.sub-word.ensures ∙ ap sub_word c.rot-word.ensures in
+    let s = c.sub_word.ensures ∙ ap sub_word c.rot_word.ensures in
     (λ j. s j ⊕ c.rcon.ensures j) ∙ sym (rw (eq-eqb (c.args.i % c.args.nk) 0 c.if-i-nk-eq0.true))
 
 pub returns-then-i-nk-eq4 : goal.returns-then-i-nk-eq4
 unfolding temp
 returns-then-i-nk-eq4 c =
     let m = c.args.i % c.args.nk in
-    c.sub-word-then-i-nk-eq4.ensures
+    c.sub_word-then-i-nk-eq4.ensures
     ∙ sym (rw (ne_eqb m 0 c.if-i-nk-eq0.false, lt-ltb 6 c.args.nk c.if-nk-gt6.true, eq-eqb m 4 c.if-i-nk-eq4.true))
 
 pub returns-else-nk-gt6 : goal.returns-else-nk-gt6

@@ -7,9 +7,9 @@ use Rattle.cipher.proofs.Joining.{joined_step}
 use Rattle.cipher.proofs.Sizes.{told_within, parts_all, key_within}
 use Rattle.cipher.proofs.derivation.make.Goals as goal
 
-pub slice-bounds-out-end : goal.slice-bounds-out-end
-slice-bounds-out-end g c =
-    let h = told_within g.C.BlockCipher.model g.met.C.BlockCipher.laws _ _ c.loop-j.j c.block-len-n.ensures c.key-len.ensures c.loop-j-test.true in
+pub slice_bounds-out-end : goal.slice_bounds-out-end
+slice_bounds-out-end g c =
+    let h = told_within g.C.BlockCipher.model g.met.C.BlockCipher.laws _ _ c.loop-j.j c.block_len-n.ensures c.key_len.ensures c.loop-j-test.true in
     let l = c.loop-j.invariant.0 in
     omega arith
 

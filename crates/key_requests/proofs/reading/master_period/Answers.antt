@@ -13,6 +13,6 @@ by_digits word digits None e none = λ t m. none t (subst (λ (x : List ℕ). Nu
 pub returns : goal.returns
 returns c =
     let word = c.args.word.now in
-    let digits = c.in-ok-digits.digits in
-    let stripped = strip_prefix_is Decides-eqb word c.as-bytes.result.now (Some digits) c.in-ok-digits.ensures.cases in
-    by_digits word digits.now c.from-decimal.result (stripped ∙ ap (λ (p : List ℕ). p ++ digits.now) c.as-bytes.ensures.value) c.from-decimal.ensures
+    let digits = c.in_ok-digits.digits in
+    let stripped = strip_prefix_is Decides-eqb word c.as_bytes.result.now (Some digits) c.in_ok-digits.ensures.cases in
+    by_digits word digits.now c.from_decimal.result (stripped ∙ ap (λ (p : List ℕ). p ++ digits.now) c.as_bytes.ensures.value) c.from_decimal.ensures

@@ -15,6 +15,6 @@ none_of word f s c m (AxisMaster a) e = e
 none_of word f s c m (AxisSerialChain a) e = e
 none_of word f s c m (AxisFanFanChain a) e = e
 
-pub returns-in-err-period : goal.returns-in-err-period
-returns-in-err-period c =
-    rw c.from-residual.ensures (none_of c.args.word.now (λ e. false≢true (c.if-is.ensures.1 e)) (λ e. false≢true (c.if-is-2.ensures.1 e)) (λ e. false≢true (c.if-is-3.ensures.1 e)) c.in-err-period.ensures)
+pub returns-in_err-period : goal.returns-in_err-period
+returns-in_err-period c =
+    rw c.from_residual.ensures (none_of c.args.word.now (λ e. false≢true (c.if-is.ensures.1 e)) (λ e. false≢true (c.if-is-2.ensures.1 e)) (λ e. false≢true (c.if-is-3.ensures.1 e)) c.in_err-period.ensures)

@@ -13,6 +13,6 @@ returns-in-Ok g c =
     let r = c.args.request in
     let given = c.in-Ok.ensures in
     let within = key_within m g.met.C.BlockCipher.laws in
-    let is : take m.key c.write-key.new.out ≡ key m (asked m r) r.number = front m.key _ (replicate 32 0) c.write-key.new.out given.1 c.write-key.array_long (omega arith) in
-    IfOk-weaker c.key-text.result (λ s. string_bytes s ≡ encoded (take m.key c.write-key.new.out)) (λ s. KeyTold m r (string_bytes s))
-    (λ s e. inl (given.0, e ∙ ap encoded is)) c.key-text.ensures
+    let is : take m.key c.write_key.new.out ≡ key m (asked m r) r.number = front m.key _ (replicate 32 0) c.write_key.new.out given.1 c.write_key.array_long (omega arith) in
+    IfOk-weaker c.key_text.result (λ s. string_bytes s ≡ encoded (take m.key c.write_key.new.out)) (λ s. KeyTold m r (string_bytes s))
+    (λ s e. inl (given.0, e ∙ ap encoded is)) c.key_text.ensures

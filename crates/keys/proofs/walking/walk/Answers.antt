@@ -14,19 +14,19 @@ loop-number-preserved g c =
     let e = c.args.source.now in
     let now = c.loop-number.source in
     let v = c.loop-number.invariant in
-    let low = c.in-ok-move-to.ensures in
+    let low = c.in_ok-move_to.ensures in
     let facts = c.count.ensures in (
       low.stack ∙ v.0,
-      c.move-to.array_long,
+      c.move_to.array_long,
       λ h p.
           let w = v.2 h p in
           let n : count (S.stack e) ≤ 16777216 = omega (arith, facts.few, facts.value h) in
-          let moved : Moved C (S.stack e) (S.stands now) c.loop-number.number (S.ledgers now) (S.ledgers c.move-to.new.self) (S.stands c.move-to.new.self) c.loop-number.key c.move-to.new.key =
-          subst (λ s. Moved C s (S.stands now) c.loop-number.number (S.ledgers now) (S.ledgers c.move-to.new.self) (S.stands c.move-to.new.self) c.loop-number.key c.move-to.new.key) v.0 (low.cases w.0) in
+          let moved : Moved C (S.stack e) (S.stands now) c.loop-number.number (S.ledgers now) (S.ledgers c.move_to.new.self) (S.stands c.move_to.new.self) c.loop-number.key c.move_to.new.key =
+          subst (λ s. Moved C s (S.stands now) c.loop-number.number (S.ledgers now) (S.ledgers c.move_to.new.self) (S.stands c.move_to.new.self) c.loop-number.key c.move_to.new.key) v.0 (low.cases w.0) in
           let lt = moved.within in (
             low.lawful w.0,
-            subst (λ k. Walked (quotas (S.stack e)) k (S.stands c.move-to.new.self) (S.ledgers c.move-to.new.self)) (sym (add-one _)) (walked_more n ((facts.facts h).accepted (omega arith)) _ moved w.1),
-            behind C.key _ c.loop-number.key c.move-to.new.key moved.key_is (omega (arith, c.move-to.array_long, v.1)) (let k = key_within C g.met.C.BlockCipher.laws in omega (arith, v.1)) ∙ w.2,
+            subst (λ k. Walked (quotas (S.stack e)) k (S.stands c.move_to.new.self) (S.ledgers c.move_to.new.self)) (sym (add-one _)) (walked_more n ((facts.facts h).accepted (omega arith)) _ moved w.1),
+            behind C.key _ c.loop-number.key c.move_to.new.key moved.key_is (omega (arith, c.move_to.array_long, v.1)) (let k = key_within C g.met.C.BlockCipher.laws in omega (arith, v.1)) ∙ w.2,
           ),
     )
 
@@ -36,8 +36,8 @@ returns g c = λ h p.
     let C = g.C.BlockCipher.model in
     let e = c.args.source.now in
     let now = c.loop-number.source in
-    let end = c.move-to-2.new.self in
-    let out = c.move-to-2.new.key in
+    let end = c.move_to-2.new.self in
+    let out = c.move_to-2.new.key in
     let held = c.loop-number.key in
     let v = c.loop-number.invariant in
     let w = v.2 h p in
@@ -46,7 +46,7 @@ returns g c = λ h p.
     let n : count (S.stack e) ≤ 16777216 = omega (arith, facts.few, facts.value h) in
     let at : c.loop-number.number ≡ c.args.last = omega arith in
     let counted = ap count v.0 in
-    MatchResult-weaker c.move-to-2.result (c.move-to-2.ensures.cases w.0)
+    MatchResult-weaker c.move_to-2.result (c.move_to-2.ensures.cases w.0)
     (λ _ m.
     let moved : Moved C (S.stack e) (S.stands now) c.args.last (S.ledgers now) (S.ledgers end) (S.stands end) held out =
     subst (λ s. Moved C s (S.stands now) c.args.last (S.ledgers now) (S.ledgers end) (S.stands end) held out) v.0 m in (

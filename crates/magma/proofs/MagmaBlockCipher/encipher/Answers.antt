@@ -9,4 +9,4 @@ returns c =
     let b = c.args.block.now in
     let ks = sym c.args.self.now.kept in
     let a = c.halves-a.ensures ∙ sym (halves_front b) in
-    c.write-halves.ensures ∙ ap (λ a. whole a ++ drop 8 b) (c.encipher-halves.ensures ∙ (λ j. rounds (round_keys (ks j)) (a j)))
+    c.write_halves.ensures ∙ ap (λ a. whole a ++ drop 8 b) (c.encipher_halves.ensures ∙ (λ j. rounds (round_keys (ks j)) (a j)))

@@ -4,12 +4,12 @@ use Rattle.magma.specs.Magma.{key_words, key_bytes}
 use Rattle.magma.specs.WordsAndBytes.{key_again}
 use Rattle.magma.proofs.MagmaBlockCipher.schedule.Goals as goal
 
-pub invariant-of-result : goal.invariant-of-result
-invariant-of-result c =
-    let ks = c.key-words.ensures in
+pub invariant_of-result : goal.invariant_of-result
+invariant_of-result c =
+    let ks = c.key_words.ensures in
     (ap key_words (ap key_bytes ks ∙ key_again c.args.key.now c.fits-key c.told-key) ∙ sym ks, tt)
 
 pub returns : goal.returns
 returns c =
     let key = c.args.key.now in
-    ap key_bytes c.key-words.ensures ∙ key_again key c.fits-key c.told-key ∙ sym (take_all 32 key (omega arith))
+    ap key_bytes c.key_words.ensures ∙ key_again key c.fits-key c.told-key ∙ sym (take_all 32 key (omega arith))

@@ -4,4 +4,4 @@ use Rattle.magma.proofs.rounds.g.Goals as goal
 
 pub returns : goal.returns
 unfolding g
-returns c = c.rotate-left.ensures ∙ ap rotated c.substitute-pairs.ensures
+returns c = c.rotate_left.ensures ∙ ap rotated c.substitute_pairs.ensures

@@ -3,5 +3,5 @@ use Rattle.magma.proofs.substitution.substitute.Goals as goal
 
 pub returns : goal.returns
 returns c =
-    by_pairs c.args.a c.to-be-bytes.result c.to-be-bytes.ensures
-    c.two-rows.ensures c.two-rows-2.ensures c.two-rows-3.ensures c.two-rows-4.ensures c.from-be-bytes.ensures
+    by_pairs c.args.a c.to_be_bytes.result c.to_be_bytes.ensures
+    c.two_rows.ensures c.two_rows-2.ensures c.two_rows-3.ensures c.two_rows-4.ensures c.from_be_bytes.ensures

@@ -3,5 +3,5 @@ use Rattle.magma.proofs.substitution.substitute_pairs.Goals as goal
 
 pub returns : goal.returns
 returns c =
-    by_pairs c.args.a c.to-be-bytes.result c.to-be-bytes.ensures
-    c.by-table.ensures c.by-table-2.ensures c.by-table-3.ensures c.by-table-4.ensures c.from-be-bytes.ensures
+    by_pairs c.args.a c.to_be_bytes.result c.to_be_bytes.ensures
+    c.by_table.ensures c.by_table-2.ensures c.by_table-3.ensures c.by_table-4.ensures c.from_be_bytes.ensures

@@ -4,5 +4,5 @@ use Rattle.vectors.proofs.request.parse.Goals as goal
 
 pub read-requires : goal.read-requires
 read-requires c =
-    let h = some (λ x. x.now) no_word (vec_items c.in-ok-words.words) c.in-ok-words.ensures.are.some in
-    rw c.as-slice.ensures.value h
+    let h = some (λ x. x.now) no_word (vec_items c.in_ok-words.words) c.in_ok-words.ensures.are.some in
+    rw c.as_slice.ensures.value h

@@ -3,13 +3,13 @@ use Rattle.vectors.specs.Requests.{action_word, Read}
 use Rattle.vectors.proofs.Fields.{no_word, first, four, not_three}
 use Rattle.vectors.proofs.request.read.Goals as goal
 
-pub returns-in-default : goal.returns-in-default
-returns-in-default c =
+pub returns-in_default : goal.returns-in_default
+returns-in_default c =
     let ws = c.args.words.now in
-    ((get_or ws 0 no_word).now, map (λ x. x.now) (drop 1 ws), first (λ x. x.now) no_word ws c.requires, c.in-default.ensures)
+    ((get_or ws 0 no_word).now, map (λ x. x.now) (drop 1 ws), first (λ x. x.now) no_word ws c.requires, c.in_default.ensures)
 
-pub returns-in-default-words : goal.returns-in-default-words
-returns-in-default-words c =
+pub returns-in_default-words : goal.returns-in_default-words
+returns-in_default-words c =
     let ws = c.args.words.now in (
       c.in-Some.action,
       map (λ x. x.now) (drop 1 ws),
@@ -17,7 +17,7 @@ returns-in-default-words c =
       not_three (λ x. x.now) no_word ws (λ e. omega (arith, ltb-true, ltb-false)) c.requires,
     )
 
-pub returns-in-default-words·2 : goal.returns-in-default-words·2
+pub returns-in-default-words·2 : goal.returns-in_default-words·2
 returns-in-default-words·2 c =
     let ws = c.args.words.now in (
       c.in-Some.action,
@@ -30,4 +30,4 @@ pub returns : goal.returns
 returns c =
     let ws = c.args.words.now in
     let is = four (λ x. x.now) no_word ws (omega (arith, ltb-true, ltb-false)) ∙ ap (λ w. w ∷ (get_or ws 1 no_word).now ∷ (get_or ws 2 no_word).now ∷ (get_or ws 3 no_word).now ∷ []) c.in-Some.ensures in
-    subst (λ l. Read l c.read-fields.result) (sym is) c.read-fields.ensures
+    subst (λ l. Read l c.read_fields.result) (sym is) c.read_fields.ensures

@@ -3,8 +3,8 @@ use Rattle.cipher.specs.Derivation.{constant}
 use Rattle.cipher.specs.KeyBlocks.{block}
 use Rattle.cipher.proofs.derivation.KeyBlocks.write.Goals as goal
 
-pub overflow-add-t : goal.overflow-add-t
-overflow-add-t c = let small = c.requires.1 in omega arith
+pub overflow_add-t : goal.overflow_add-t
+overflow_add-t c = let small = c.requires.1 in omega arith
 
 pub returns-in-Constants : goal.returns-in-Constants
 unfolding constant

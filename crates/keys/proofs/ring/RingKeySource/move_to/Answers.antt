@@ -3,19 +3,19 @@ use Rattle.std.proofs.lemmas.Result.{err_from_is_err_and}
 use Rattle.keys.proofs.Bottoms.{key_within, ring_same}
 use Rattle.keys.proofs.ring.RingKeySource.move_to.Goals as goal
 
-pub returns-in-err-visit : goal.returns-in-err-visit
-returns-in-err-visit g c =
-    let kept = c.in-err-visit.ensures in
-    let p = err_from_is_err_and c.from-residual.result c.from-residual.ensures.1 in
+pub returns-in_err-visit : goal.returns-in_err-visit
+returns-in_err-visit g c =
+    let kept = c.in_err-visit.ensures in
+    let p = err_from_is_err_and c.from_residual.result c.from_residual.ensures.1 in
     rw p.1 (record {
       stack = search rules;
       lawful = λ e. e;
       cases = λ _. record { past = search rules; self_is = search (rules, ring_same); out_is = search rules };
     })
 
-pub slice-bounds-copy-from-slice-end-2 : goal.slice-bounds-copy-from-slice-end-2
-slice-bounds-copy-from-slice-end-2 g c =
+pub slice_bounds-copy_from_slice-end-2 : goal.slice_bounds-copy_from_slice-end-2
+slice_bounds-copy_from_slice-end-2 g c =
     let s = c.args.self.now in
     let i = c.args.number in
-    let h : i * s.width + s.width ≤ length s.keys.now = key_within i s.tally.count s.width _ c.in-ok-visit.ensures.cases.0 s.held in
+    let h : i * s.width + s.width ≤ length s.keys.now = key_within i s.tally.count s.width _ c.in_ok-visit.ensures.cases.0 s.held in
     omega arith

@@ -19,9 +19,9 @@ returns g c =
     let law = S.lawful below in
     let maker = c.new.result in
     let same : kind maker.rule ≡ l = ap kind c.new.ensures.rule in
-    let fresh : not c.is-some.result ≡ not (is_some at) = ap not (c.is-some.ensures ∙ ap is_some c.position.ensures) in
+    let fresh : not c.is_some.result ≡ not (is_some at) = ap not (c.is_some.ensures ∙ ap is_some c.position.ensures) in
     let settled : law → Settled l (not (is_some at)) (renews_keys st) (levels st) (count st) (note st) step.count step.quota x = λ h.
-    settled_as fresh (c.renews-own-keys.ensures h) (c.levels.ensures.value h) (c.count.ensures.value h) (c.note.ensures h) c.settle.ensures in
+    settled_as fresh (c.renews_own_keys.ensures h) (c.levels.ensures.value h) (c.count.ensures.value h) (c.note.ensures h) c.settle.ensures in
     let stack : law → stack_of step.count (kind maker.rule) x st ≡ stood l (not (is_some at)) st = λ h.
     ap (λ k. stack_of step.count k x st) same ∙ made_stack C law st at (S.ledgers below) l step.count step.quota x (c.count.ensures.facts h) (settled h) in
     record {
