@@ -7,15 +7,6 @@ use Rattle.text.specs.Words.{Word, spaced, Words}
 pub words_one : (text : List ℕ) → Word text → Words text (text ∷ [])
 words_one text h = record { whole = refl; some = λ e. let z : ◌≡◌ {A = ℕ} 0 1 = cc in omega arith; words = (h, tt) }
 
--- a word in front
-pub words_more : (text w rest : List ℕ) (ws : List (List ℕ)) → text ≡ w ++ 32 ∷ rest → Word w → Words rest ws → Words text (w ∷ ws)
-words_more text w rest [] e h t = absurd (t.some refl)
-words_more text w rest (v ∷ ws) e h t = record {
-  whole = e ∙ ap (λ x. w ++ 32 ∷ x) t.whole;
-  some = λ d. let z : ◌≡◌ {A = ℕ} 0 1 = cc in omega arith;
-  words = (h, t.words);
-}
-
 -- where the first blank stands is settled
 word_same : (w v a b : List ℕ) → Word w → Word v → w ++ 32 ∷ a ≡ v ++ 32 ∷ b → (w ≡ v) × (a ≡ b)
 word_same [] [] a b p q e = (refl, cc)
