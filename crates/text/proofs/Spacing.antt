@@ -1,6 +1,6 @@
 -- Lines and their words. Assumes nothing.
 use Rattle.std.proofs.Common.{◌≡◌, ℕ, List, [], ◌∷◌, ◌++◌, sym, refl, ap, ◌∙◌, arith}
-use Rattle.std.specs.List.{AllByRecursion as All}
+use Rattle.std.specs.List.{AllByRecursion}
 use Rattle.text.specs.Words.{Word, spaced, Words}
 
 -- a line of one word
@@ -25,7 +25,7 @@ no_blank [] (y ∷ v) a h e = let z : ◌≡◌ {A = ℕ} 0 1 = cc in omega arit
 no_blank (x ∷ w) [] a h e = h.0 (cc)
 no_blank (x ∷ w) (y ∷ v) a h e = let tail : w ≡ v ++ 32 ∷ a = cc in no_blank w v a h.1 tail
 
-same : (ws vs : List (List ℕ)) → All Word ws → All Word vs → (ws ≡ [] → ⊥) → (vs ≡ [] → ⊥) → spaced ws ≡ spaced vs → ws ≡ vs
+same : (ws vs : List (List ℕ)) → AllByRecursion Word ws → AllByRecursion Word vs → (ws ≡ [] → ⊥) → (vs ≡ [] → ⊥) → spaced ws ≡ spaced vs → ws ≡ vs
 same [] vs p q m n e = absurd (m refl)
 same (w ∷ ws) [] p q m n e = absurd (n refl)
 same (w ∷ []) (v ∷ []) p q m n e = ap (λ x. x ∷ []) e
