@@ -1,8 +1,6 @@
 -- Decimal digits, one after the other. Assumes nothing.
-use Rattle.std.proofs.Common.{◌≡◌, ℕ, ◌+◌, ◌-◌, ◌*◌, ◌^◌, ◌<◌, ◌≤◌, ◌⊎◌, List, [], ◌∷◌, length, get_or, take, drop, sym, ap, ◌∙◌, ⊎_elim, arith}
-use Rattle.std.specs.List.{AllByRecursion as All}
+use Rattle.std.proofs.Common.{◌≡◌, ℕ, ◌+◌, ◌-◌, ◌*◌, ◌^◌, ◌<◌, ◌≤◌, List, [], ◌∷◌, length, get_or, drop, arith}
 use Rattle.std.proofs.lemmas.List.{at_drop_more}
-use Rattle.std.proofs.ByRecursion.{All-get_or}
 use Rattle.text.specs.Numerals.{spelled, Numeral}
 
 -- more digits never make a smaller number
@@ -14,10 +12,6 @@ spelled_least a (c ∷ cs) = omega (arith, spelled_least (a * 10 + (c - 48)) cs)
 pub spelled_more : (a i : ℕ) (text : List ℕ) → i < length text
     → spelled a (drop i text) ≡ spelled (a * 10 + (get_or text i 0 - 48)) (drop (i + 1) text)
 spelled_more a i text h = at_drop_more (spelled a) text i 0 h
-
--- a character that is no digit
-pub no_digit : (text : List ℕ) (i : ℕ) → i < length text → (get_or text i 0 < 48) ⊎ (57 < get_or text i 0) → (t : ℕ) → Numeral text t → ⊥
-no_digit text i h bad t n = let d = All-get_or (λ c. (48 ≤ c) × (c < 58)) text i 0 h n.digits in ⊎_elim (λ b. omega arith) (λ b. omega arith) bad
 
 -- digits that have come past 32 bits already
 pub too_large : (text rest : List ℕ) (a : ℕ) → 2 ^ 32 ≤ a → spelled a rest ≡ spelled 0 text → (t : ℕ) → Numeral text t → ⊥

@@ -1,7 +1,7 @@
 -- Digits in pairs, and bytes. Assumes nothing.
-use Rattle.std.proofs.Common.{◌≡◌, ℕ, ◌+◌, ◌*◌, ◌/◌, ◌%◌, ◌<◌, List, [], ◌∷◌, ◌++◌, length, get_or, take, sym, ap, ◌∙◌, inl, inr, arith, below_more}
-use Rattle.std.proofs.lemmas.List.{length_push, get_or_push, get_or_append_left, append_assoc, flat_map_more, take_more}
-use Rattle.text.specs.Hex.{Digit, Spells, capital, encoded}
+use Rattle.std.proofs.Common.{◌≡◌, ℕ, ◌+◌, ◌*◌, ◌/◌, ◌%◌, ◌<◌, List, [], ◌∷◌, ◌++◌, length, get_or, ap, ◌∙◌, inl, inr, arith, below_more}
+use Rattle.std.proofs.lemmas.List.{length_push, get_or_push, get_or_append_left}
+use Rattle.text.specs.Hex.{Digit, Spells}
 
 pub small : (c v : ℕ) → Digit c v → v < 16
 small c v (inl p) = omega arith
@@ -32,26 +32,9 @@ front_more text bytes i h l hi lo f =
           (rw (new, down) lo);
     }
 
-pub front_all : (text bytes : List ℕ) (i : ℕ) → length text ≡ 2 * i → Front text bytes i → Spells text bytes
-front_all text bytes i e f = record {
-  pairs = e ∙ ap (λ n. 2 * n) (sym f.long);
-  high = λ k h. f.high k (omega (arith, f.long));
-  low = λ k h. f.low k (omega (arith, f.long));
-}
-
 -- a character that is no digit, at an even or an odd place
 pub no_high : (text : List ℕ) (i : ℕ) → i < length text / 2 → ((v : ℕ) → Digit (get_or text (2 * i) 0) v → ⊥) → (bytes : List ℕ) → Spells text bytes → ⊥
 no_high text i lt none bytes s = none _ (s.high i (omega (arith, s.pairs)))
 
 pub no_low : (text : List ℕ) (i : ℕ) → i < length text / 2 → ((v : ℕ) → Digit (get_or text (2 * i + 1) 0) v → ⊥) → (bytes : List ℕ) → Spells text bytes → ⊥
 no_low text i lt none bytes s = none _ (s.low i (omega (arith, s.pairs)))
-
--- the digits of one byte more, by two pushes
-pub encoded_more : {s s' s'' high low : List ℕ} (bytes : List ℕ) (i : ℕ) → i < length bytes
-    → s ≡ encoded (take i bytes) → s' ≡ s ++ high → s'' ≡ s' ++ low
-    → high ≡ capital (get_or bytes i 0 / 16) ∷ [] → low ≡ capital (get_or bytes i 0 % 16) ∷ [] → s'' ≡ encoded (take (i + 1) bytes)
-encoded_more {s} {s'} {s''} {high} {low} bytes i h e one two a b =
-    let d = get_or bytes i 0 in
-    let all : s'' ≡ (encoded (take i bytes) ++ capital (d / 16) ∷ []) ++ capital (d % 16) ∷ [] = two ∙ ap (λ x. x ++ low) one ∙ (λ j. (e j ++ a j) ++ b j) in
-    all ∙ append_assoc (encoded (take i bytes)) (capital (d / 16) ∷ []) (capital (d % 16) ∷ [])
-    ∙ flat_map_more (λ x. capital (x / 16) ∷ capital (x % 16) ∷ []) [] (take i bytes) d ∙ ap encoded (sym (take_more bytes i 0 h))

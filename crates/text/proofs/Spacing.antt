@@ -1,20 +1,11 @@
 -- Lines and their words. Assumes nothing.
-use Rattle.std.proofs.Common.{◌≡◌, ℕ, List, [], ◌∷◌, ◌++◌, map, sym, refl, ap, ◌∙◌, subst, arith}
-use Rattle.std.specs.List.{AllByRecursion as All}
+use Rattle.std.proofs.Common.{◌≡◌, ℕ, List, [], ◌∷◌, ◌++◌, sym, refl, ap, ◌∙◌, arith}
+use Rattle.std.specs.List.{AllByRecursion}
 use Rattle.text.specs.Words.{Word, spaced, Words}
 
 -- a line of one word
 pub words_one : (text : List ℕ) → Word text → Words text (text ∷ [])
 words_one text h = record { whole = refl; some = λ e. let z : ◌≡◌ {A = ℕ} 0 1 = cc in omega arith; words = (h, tt) }
-
--- a word in front
-pub words_more : (text w rest : List ℕ) (ws : List (List ℕ)) → text ≡ w ++ 32 ∷ rest → Word w → Words rest ws → Words text (w ∷ ws)
-words_more text w rest [] e h t = absurd (t.some refl)
-words_more text w rest (v ∷ ws) e h t = record {
-  whole = e ∙ ap (λ x. w ++ 32 ∷ x) t.whole;
-  some = λ d. let z : ◌≡◌ {A = ℕ} 0 1 = cc in omega arith;
-  words = (h, t.words);
-}
 
 -- where the first blank stands is settled
 word_same : (w v a b : List ℕ) → Word w → Word v → w ++ 32 ∷ a ≡ v ++ 32 ∷ b → (w ≡ v) × (a ≡ b)
@@ -34,7 +25,7 @@ no_blank [] (y ∷ v) a h e = let z : ◌≡◌ {A = ℕ} 0 1 = cc in omega arit
 no_blank (x ∷ w) [] a h e = h.0 (cc)
 no_blank (x ∷ w) (y ∷ v) a h e = let tail : w ≡ v ++ 32 ∷ a = cc in no_blank w v a h.1 tail
 
-same : (ws vs : List (List ℕ)) → All Word ws → All Word vs → (ws ≡ [] → ⊥) → (vs ≡ [] → ⊥) → spaced ws ≡ spaced vs → ws ≡ vs
+same : (ws vs : List (List ℕ)) → AllByRecursion Word ws → AllByRecursion Word vs → (ws ≡ [] → ⊥) → (vs ≡ [] → ⊥) → spaced ws ≡ spaced vs → ws ≡ vs
 same [] vs p q m n e = absurd (m refl)
 same (w ∷ ws) [] p q m n e = absurd (n refl)
 same (w ∷ []) (v ∷ []) p q m n e = ap (λ x. x ∷ []) e

@@ -1,6 +1,6 @@
 -- Numbers in decimal digits. Assumes nothing.
 use Rattle.std.specs.Prelude.{◌≡◌, ℕ, ◌+◌, ◌-◌, ◌*◌, ◌^◌, ◌<◌, ◌≤◌, List, [], ◌∷◌, length, Some, None, Option}
-use Rattle.std.specs.List.{AllByRecursion as All}
+use Rattle.std.specs.List.{AllByRecursion}
 
 -- the number that has the digits of a before those of the text
 abbrev pub spelled : ℕ → List ℕ → ℕ
@@ -10,7 +10,7 @@ spelled a (c ∷ cs) = spelled (a * 10 + (c - 48)) cs
 -- a text of digits 0 to 9 is a number of at most 32 bits
 pub record Numeral (text : List ℕ) (t : ℕ) : Type 0 where
   pub some : 0 < length text
-  pub digits : All (λ c. (48 ≤ c) × (c < 58)) text
+  pub digits : AllByRecursion (λ c. (48 ≤ c) × (c < 58)) text
   pub value : spelled 0 text ≡ t
   pub fits : t < 2 ^ 32
 

@@ -1,11 +1,11 @@
 -- A line and its words. Assumes nothing.
 use Rattle.std.specs.Prelude.{◌≡◌, ℕ, List, [], ◌∷◌, ◌++◌, Some, None, Option, ◌≢◌}
 use Rattle.std.specs.Borrow.{Bor}
-use Rattle.std.specs.List.{AllByRecursion as All}
+use Rattle.std.specs.List.{AllByRecursion}
 
 -- a text without a blank
 abbrev pub Word : List ℕ → Type 0
-Word = All (λ c. c ≢ 32)
+Word = AllByRecursion (λ c. c ≢ 32)
 
 -- texts with one blank between
 abbrev pub spaced : List (List ℕ) → List ℕ
@@ -17,7 +17,7 @@ spaced (w ∷ v ∷ ws) = w ++ 32 ∷ spaced (v ∷ ws)
 pub record Words (line : List ℕ) (ws : List (List ℕ)) : Type 0 where
   pub whole : line ≡ spaced ws
   pub some : ws ≡ [] → ⊥
-  pub words : All Word ws
+  pub words : AllByRecursion Word ws
 
 -- a line has no other words
 pub record TheWords (line : List ℕ) (ws : List (List ℕ)) : Type 0 where

@@ -1,17 +1,17 @@
-use Rattle.std.proofs.Common.{◌≡◌, length, vec_items, sym, ◌∙◌, subst, arith}
+use Rattle.std.proofs.Common.{vec_items, arith}
 use Rattle.std.proofs.lemmas.Result.{err_from_is_err_and}
-use Rattle.text.proofs.Pairs.{Front, front_more, no_high, no_low}
+use Rattle.text.proofs.Pairs.{front_more, no_high, no_low}
 use Rattle.text.proofs.hexadecimal.from_hex.Goals as goal
 
-pub returns-in-err-high : goal.returns-in-err-high
-returns-in-err-high c =
-    let p = err_from_is_err_and c.from-residual.result c.from-residual.ensures.1 in
-    rw (p.1, p.2, c.in-err-high.ensures.0) (no_high c.args.text.now c.loop-i.i (omega arith) c.in-err-high.ensures.1)
+pub returns-in_err-high : goal.returns-in_err-high
+returns-in_err-high c =
+    let p = err_from_is_err_and c.from_residual.result c.from_residual.ensures.1 in
+    rw (p.1, p.2, c.in_err-high.ensures.0) (no_high c.args.text.now c.loop-i.i (omega arith) c.in_err-high.ensures.1)
 
-pub returns-in-err-low : goal.returns-in-err-low
-returns-in-err-low c =
-    let p = err_from_is_err_and c.from-residual-in-err-low.result c.from-residual-in-err-low.ensures.1 in
-    rw (p.1, p.2, c.in-err-low.ensures.0) (no_low c.args.text.now c.loop-i.i (omega arith) c.in-err-low.ensures.1)
+pub returns-in_err-low : goal.returns-in_err-low
+returns-in_err-low c =
+    let p = err_from_is_err_and c.from_residual-in_err-low.result c.from_residual-in_err-low.ensures.1 in
+    rw (p.1, p.2, c.in_err-low.ensures.0) (no_low c.args.text.now c.loop-i.i (omega arith) c.in_err-low.ensures.1)
 
 pub loop-i-preserved : goal.loop-i-preserved
 loop-i-preserved c = (

@@ -1,15 +1,8 @@
-use Rattle.std.proofs.Common.{◌≡◌, ℕ, ◌+◌, ◌-◌, List, [], ◌∷◌, ◌++◌, map, length, vec_items, sym, ap, ◌∙◌, subst, append_assoc, append-nil, arith, Bor}
-use Rattle.std.proofs.lemmas.List.{length-append, map_push}
+use Rattle.std.proofs.Common.{◌≡◌, ℕ, List, [], ◌∷◌, ◌++◌, map, vec_items, sym, ap, ◌∙◌, subst, append_assoc, append-nil, Bor}
+use Rattle.std.proofs.lemmas.List.{map_push}
 use Rattle.text.specs.Words.{Words}
-use Rattle.text.proofs.Spacing.{words_one, words_more, words_same}
+use Rattle.text.proofs.Spacing.{words_one, words_same}
 use Rattle.text.proofs.words.split_words.Goals as goal
-
-pub loop-word-smaller : goal.loop-word-smaller
-loop-word-smaller c =
-    let h = c.in-Some.ensures in
-    let word = c.in-Some.word.now in
-    let after = c.in-Some.after.now in
-    omega (arith, ap length h.0, length-append word (32 ∷ after))
 
 -- a word more at the end of those that were cut off
 kept : (line : List ℕ) (all after : List (Bor (List ℕ))) (w : Bor (List ℕ)) (ws : List (List ℕ)) → after ≡ all ++ w ∷ []
@@ -18,12 +11,6 @@ kept line all after w ws e h =
     let is : map (λ x. x.now) after ++ ws ≡ map (λ x. x.now) all ++ w.now ∷ ws =
     ap (λ l. map (λ x. x.now) l ++ ws) e ∙ ap (λ l. l ++ ws) (map_push (λ x. x.now) all w) ∙ append_assoc (map (λ x. x.now) all) (w.now ∷ []) ws in
     subst (Words line) (sym is) h
-
-pub loop-word-preserved : goal.loop-word-preserved
-loop-word-preserved c = λ ws h.
-    let s = c.in-Some.ensures in
-    kept c.args.line.now (vec_items c.loop-word.all) (vec_items c.push.new.self) c.in-Some.word ws c.in_ok-push.ensures.items
-    (c.loop-word.invariant (c.in-Some.word.now ∷ ws) (words_more c.loop-word.rest.now c.in-Some.word.now c.in-Some.after.now ws s.0 s.1 h))
 
 pub returns : goal.returns
 returns c =
