@@ -5,7 +5,7 @@ use Rattle.aes.proofs.columns.word.Goals as goal
 
 pub returns : goal.returns
 returns c =
-    let b = c.type-inv.b in
+    let b = c.type_inv.b in
     let i = c.args.i in
     record {
       value = c.from_be_bytes.ensures;
