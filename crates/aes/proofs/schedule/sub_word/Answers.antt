@@ -1,7 +1,7 @@
 use Rattle.std.proofs.Common.{map, ap, ◌∙◌}
 use Rattle.cipher.specs.Bytes.{word}
 use Rattle.aes.specs.Aes.{s_box}
-use Rattle.aes.specs.States.{diagonal}
+use Rattle.aes.proofs.States.{diagonal}
 use Rattle.aes.proofs.schedule.sub_word.Goals as goal
 
 pub returns : goal.returns
