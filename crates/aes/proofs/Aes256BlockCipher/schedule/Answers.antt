@@ -10,6 +10,3 @@ invariant_of-result c =
       made = c.key_expansion.ensures.words
           ∙ ap (expanded 8 52) (sym (take_all 32 key (omega arith)) ∙ sym c.key_expansion.ensures.front);
     }
-
-pub returns : goal.returns
-returns c = c.key_expansion.ensures.front
