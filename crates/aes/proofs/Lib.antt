@@ -1,2 +1,4 @@
+pub mod Turns
 pub mod Lookups
+pub mod States
 pub mod Expansion

@@ -1,12 +1,12 @@
 -- A column that is the sum of four look-ups, each rotated into its row. Assumes nothing.
 use Rattle.std.proofs.Common.{◌≡◌, ℕ, ◌-◌, ◌*◌, ◌/◌, ◌%◌, ◌^◌, ◌<◌, [], ◌∷◌, ap, ◌∙◌}
-use lib.Bits.{bit_or}
+use Rattle.std.specs.Prelude.{bit_or}
 use Rattle.cipher.specs.Bytes.{word_bytes}
 use Rattle.cipher.proofs.Words.{word4, bytes_word4}
 use Rattle.aes.specs.Field.{◌⊕◌, ◌•◌}
 use Rattle.aes.specs.Aes.{circulant}
 use Rattle.aes.specs.Fields.{product_below}
-use Rattle.aes.specs.Turns.{bytes_xor4, right1, right2, right3}
+use Rattle.aes.proofs.Turns.{bytes_xor4, right1, right2, right3}
 
 -- a word rotated right by k bits
 abbrev pub right : ℕ → ℕ → ℕ

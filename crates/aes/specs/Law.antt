@@ -1,6 +1,7 @@
 -- InvCipher undoes Cipher, with any number of rounds and any words. Assumes nothing.
-use Rattle.std.specs.Prelude.{◌≡◌, ℕ, zero, suc, ◌+◌, ◌-◌, ◌*◌, ◌/◌, ◌%◌, ◌<◌, List, [], ◌∷◌, length, slice_index, slice_index_or, refl}
-use Rattle.std.proofs.Common.{ap, ◌∙◌, inr, arith}
+use Rattle.std.specs.Prelude.{◌≡◌, ℕ, zero, suc, ◌+◌, ◌-◌, ◌*◌, ◌/◌, ◌%◌, ◌<◌, List, length, slice_index, slice_index_or, refl}
+use Rattle.std.proofs.Common.{sym, ap, ◌∙◌, inr}
+use Rattle.std.proofs.lemmas.List.FromFn.{fill_by_all}
 use Rattle.std.proofs.lemmas.Nat.{xor_lt}
 use Rattle.std.specs.List.{range_with_len, AllByRecursion as All}
 use Rattle.std.proofs.ByRecursion.{All-map, All-from_get_or}
@@ -12,8 +13,11 @@ use Rattle.aes.specs.Aes.{at, state, s_box, sub_bytes, shift_rows, column, produ
 use Rattle.aes.specs.Fields.{product_below}
 use Rattle.aes.specs.Mixing.{unmixed}
 use Rattle.aes.specs.SBoxes.{s_box_below, inv_s_box_s_box}
-use Rattle.aes.specs.States.{spread}
 use Rattle.aes.specs.Xors.{cancel}
+
+-- a state is what stands in its rows and columns
+pub spread : (s : List ℕ) → length s ≡ 16 → state (at s) ≡ s
+spread s l = sym (fill_by_all (λ i. slice_index s i) s 16 0 l (λ k h. refl))
 
 -- every number of the list is a byte
 abbrev Small : List ℕ → Type 0

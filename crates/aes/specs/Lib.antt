@@ -7,5 +7,3 @@ pub mod Xors
 pub mod Mixing
 pub mod Checked
 pub mod SBoxes
-pub mod States
-pub mod Turns

@@ -26,10 +26,6 @@ s_box_below a =
     let four = xor_lt 8 (b ⊕ rotated 1 b ⊕ rotated 2 b ⊕ rotated 3 b) (rotated 4 b) three (omega arith) in
     xor_lt 8 (b ⊕ rotated 1 b ⊕ rotated 2 b ⊕ rotated 3 b ⊕ rotated 4 b) 0x63 four (omega arith)
 
-pub inv_s_box_below : (a : ℕ) → inv_s_box a < 256
-unfolding inv_s_box
-inv_s_box_below a = inverse_below _
-
 back_at_once : (a : ℕ) → a < 256 → at_once inv_s_box (s_box a) ≡ a
 unfolding s_box inv_s_box inverse ◌•◌ x_times
 back_at_once = same_bytes (λ a. at_once inv_s_box (s_box a)) (λ a. a) tt

@@ -1,7 +1,7 @@
 use Rattle.std.proofs.Common.{ℕ, List, take, sym, ap, ◌∙◌, arith}
 use Rattle.aes.specs.Aes.{inv_cipher, dec256}
 use Rattle.aes.specs.Words.{key_of}
-use Rattle.aes.specs.States.{whole}
+use Rattle.aes.proofs.States.{whole}
 use Rattle.aes.proofs.Aes256BlockCipher.decipher.Goals as goal
 
 pub returns : goal.returns

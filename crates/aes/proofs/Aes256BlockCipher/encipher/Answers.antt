@@ -1,7 +1,7 @@
 use Rattle.std.proofs.Common.{ℕ, List, take, sym, ap, ◌∙◌, arith}
 use Rattle.aes.specs.Aes.{cipher, enc256}
 use Rattle.aes.specs.Words.{key_of}
-use Rattle.aes.specs.States.{whole}
+use Rattle.aes.proofs.States.{whole}
 use Rattle.aes.proofs.Aes256BlockCipher.encipher.Goals as goal
 
 pub returns : goal.returns

@@ -5,11 +5,8 @@ use Rattle.aes.proofs.Aes256BlockCipher.schedule.Goals as goal
 
 pub invariant_of-result : goal.invariant_of-result
 invariant_of-result c =
-    let key = c.args.key.now in (
-      c.key_expansion.ensures.words
-          ∙ ap (expanded 8 52) (sym (take_all 32 key (omega arith)) ∙ sym c.key_expansion.ensures.front),
-      tt,
-    )
-
-pub returns : goal.returns
-returns c = c.key_expansion.ensures.front
+    let key = c.args.key.now in
+    record {
+      made = c.key_expansion.ensures.words
+          ∙ ap (expanded 8 52) (sym (take_all 32 key (omega arith)) ∙ sym c.key_expansion.ensures.front);
+    }

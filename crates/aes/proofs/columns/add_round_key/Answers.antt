@@ -1,7 +1,7 @@
 use Rattle.std.proofs.Common.{◌++◌}
 use Rattle.aes.specs.Aes.{add_round_key}
 use Rattle.aes.specs.Words.{state_of}
-use Rattle.aes.specs.Turns.{bytes_xor}
+use Rattle.aes.proofs.Turns.{bytes_xor}
 use Rattle.aes.proofs.columns.add_round_key.Goals as goal
 
 pub returns : goal.returns

@@ -1,6 +1,6 @@
 use Rattle.std.proofs.Common.{◌++◌, ◌∙◌, arith}
 use Rattle.aes.specs.Words.{state_of}
-use Rattle.aes.specs.States.{spread}
+use Rattle.aes.specs.Law.{spread}
 use Rattle.aes.proofs.columns.from_bytes.Goals as goal
 
 pub returns : goal.returns

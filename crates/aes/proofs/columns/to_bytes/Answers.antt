@@ -1,6 +1,6 @@
 use Rattle.std.proofs.Common.{◌++◌}
 use Rattle.aes.specs.Words.{state_of}
-use Rattle.aes.specs.States.{diagonal}
+use Rattle.aes.proofs.States.{diagonal}
 use Rattle.aes.proofs.columns.to_bytes.Goals as goal
 
 pub returns : goal.returns

@@ -1,7 +1,7 @@
 use Rattle.std.proofs.Common.{map}
 use Rattle.aes.specs.Aes.{inv_s_box}
 use Rattle.aes.specs.Words.{state_of}
-use Rattle.aes.specs.States.{unshifted}
+use Rattle.aes.proofs.States.{unshifted}
 use Rattle.aes.proofs.inverse.inv_shift_sub.Goals as goal
 
 pub returns : goal.returns

@@ -1,8 +1,9 @@
 use Rattle.aes.specs.Field.{◌•◌, x_times}
+use Rattle.aes.specs.declared.inverse_tables.TheConstants.{INV_MIX}
 use Rattle.cipher.proofs.Every.{tabled}
 use Rattle.aes.proofs.Lookups.{entry}
 use Rattle.aes.proofs.inverse_tables.inv_mix.Goals as goal
 
 pub returns : goal.returns
 unfolding ◌•◌ x_times
-returns c = rw (tabled (entry 0x0e 0x09 0x0d 0x0b) c.args.y, tt {0}, c.ranges.y.fits)
+returns c = tabled (entry 0x0e 0x09 0x0d 0x0b) c.args.y INV_MIX tt c.ranges.y.fits

@@ -1,7 +1,7 @@
 use Rattle.std.proofs.Common.{map}
 use Rattle.aes.specs.Aes.{s_box, circulant, round, add_round_key}
 use Rattle.aes.specs.Words.{state_of}
-use Rattle.aes.specs.States.{shifted}
+use Rattle.aes.proofs.States.{shifted}
 use Rattle.aes.proofs.rounds.round.Goals as goal
 
 pub returns : goal.returns

@@ -42,5 +42,5 @@ returns c =
     record {
       words = words;
       front = ap (λ l. key_of (take nk l)) words ∙ ap key_of (first_words nk (length c.args.w.now - nk) key)
-          ∙ key_of_words nk key (omega arith) (λ k. (c.type-inv.key k).fits);
+          ∙ key_of_words nk key (omega arith) (λ k. (c.type_inv.key k).fits);
     }

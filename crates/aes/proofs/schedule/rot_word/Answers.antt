@@ -1,5 +1,5 @@
 use Rattle.std.proofs.Common.{◌∙◌}
-use Rattle.aes.specs.Turns.{left1}
+use Rattle.aes.proofs.Turns.{left1}
 use Rattle.aes.proofs.schedule.rot_word.Goals as goal
 
 pub returns : goal.returns

@@ -1,17 +1,8 @@
-use Rattle.std.proofs.Common.{◌%◌, sym, ap, ◌∙◌, arith, le-ltb, lt-ltb, eq-eqb, ne_eqb}
-use Rattle.std.proofs.lemmas.Nat.{le-div, div_below}
+use Rattle.std.proofs.Common.{◌%◌, sym, ap, ◌∙◌, le-ltb, lt-ltb, eq-eqb, ne_eqb}
 use Rattle.aes.specs.Field.{◌⊕◌}
 use Rattle.aes.specs.Aes.{temp, sub_word}
 use Rattle.aes.proofs.schedule.temp.Goals as goal
 use Rattle.aes.proofs.schedule.temp.Goals.{else-nk-gt6-via-then-nk-gt6+else-i-nk-eq4, else-nk-gt6-via-else-nk-gt6}
-
-pub rcon-requires : goal.rcon-requires
-rcon-requires c =
-    let i = c.args.i in
-    let nk = c.args.nk in
-    let low = le-div 1 i nk (omega arith) (omega arith) in
-    let high = div_below i nk 11 (omega arith) (omega arith) in
-    (omega arith, omega arith)
 
 pub returns-then-i-nk-eq0 : goal.returns-then-i-nk-eq0
 unfolding temp

@@ -1,6 +1,7 @@
-use Rattle.std.proofs.Common.{◌≡◌, ◌+◌, ◌-◌, ◌<◌, ap, arith}
+use Rattle.std.proofs.Common.{◌≡◌, ◌+◌, ◌-◌, ◌<◌, ap, ◌∙◌, arith}
 use Rattle.aes.specs.Field.{◌•◌, x_times}
 use Rattle.aes.specs.Aes.{rcon}
+use Rattle.aes.specs.declared.tables.TheConstants.{RCON}
 use Rattle.cipher.proofs.Every.{tabled}
 use Rattle.aes.proofs.tables.rcon.Goals as goal
 
@@ -9,4 +10,4 @@ unfolding rcon ◌•◌ x_times
 returns c =
     let h : c.args.j - 1 < 10 = omega arith in
     let e : c.args.j - 1 + 1 ≡ c.args.j = omega arith in
-    rw (tabled (λ i. rcon (i + 1)) (c.args.j - 1), tt {0}) (ap rcon e)
+    tabled (λ i. rcon (i + 1)) (c.args.j - 1) RCON tt h ∙ ap rcon e

@@ -1,17 +1,11 @@
 -- States of 16 bytes, and their columns. Assumes nothing.
-use Rattle.std.specs.Prelude.{◌≡◌, ℕ, List, [], ◌∷◌, ◌++◌, length, take, drop, slice_index, refl}
-use Rattle.std.proofs.Common.{sym, ◌∙◌, le_of_eq}
-use Rattle.std.proofs.lemmas.List.FromFn.{fill_by_all}
+use Rattle.std.specs.Prelude.{◌≡◌, ℕ, List, [], ◌∷◌, ◌++◌, length, take, drop, slice_index}
+use Rattle.std.proofs.Common.{◌∙◌, le_of_eq}
 use Rattle.std.proofs.lemmas.List.{take_all, drop_all, append-nil}
 use Rattle.cipher.specs.Bytes.{word_bytes}
 use Rattle.aes.specs.Field.{◌⊕◌}
-use Rattle.aes.specs.Aes.{at, state}
 use Rattle.aes.specs.Words.{state_of}
-use Rattle.aes.specs.Turns.{sum4, bytes_xor}
-
--- a state is what stands in its rows and columns
-pub spread : (s : List ℕ) → length s ≡ 16 → state (at s) ≡ s
-spread s l = sym (fill_by_all (λ i. slice_index s i) s 16 0 l (λ k h. refl))
+use Rattle.aes.proofs.Turns.{sum4, bytes_xor}
 
 -- a buffer that a block fills
 pub whole : (f : List ℕ → List ℕ) (b : List ℕ) → length b ≡ 16 → f (take 16 b) ++ drop 16 b ≡ f b
