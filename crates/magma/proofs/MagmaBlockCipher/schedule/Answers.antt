@@ -7,7 +7,7 @@ use Rattle.magma.proofs.MagmaBlockCipher.schedule.Goals as goal
 pub invariant_of-result : goal.invariant_of-result
 invariant_of-result c =
     let ks = c.key_words.ensures in
-    (ap key_words (ap key_bytes ks ∙ key_again c.args.key.now c.fits-key c.told-key) ∙ sym ks, tt)
+    record { kept = ap key_words (ap key_bytes ks ∙ key_again c.args.key.now c.fits-key c.told-key) ∙ sym ks }
 
 pub returns : goal.returns
 returns c =
