@@ -1,7 +1,7 @@
 use Rattle.std.proofs.Common.{sym, ap, ◌∙◌, arith}
 use Rattle.std.proofs.lemmas.List.{take_all}
 use Rattle.magma.specs.Magma.{key_words, key_bytes}
-use Rattle.magma.specs.WordsAndBytes.{key_again}
+use Rattle.magma.proofs.WordsAndBytes.{key_again}
 use Rattle.magma.proofs.MagmaBlockCipher.schedule.Goals as goal
 
 pub invariant_of-result : goal.invariant_of-result
