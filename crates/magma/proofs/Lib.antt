@@ -1,1 +1,3 @@
 pub mod Paired
+pub mod Feistel
+pub mod WordsAndBytes

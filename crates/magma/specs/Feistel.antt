@@ -1,12 +1,12 @@
--- The rounds one after the other, and back. Assumes nothing.
+-- The rounds one after the other, and back: the law of a cipher rests on it. Assumes nothing.
 use Rattle.std.specs.Prelude.{◌≡◌, ℕ, ◌+◌, ◌<◌, List, [], ◌∷◌, ◌++◌, reverse, length, take, bit_xor, slice_index, refl}
 use Rattle.std.proofs.Common.{sym, ap, ◌∙◌, arith}
-use mathlib.Core.List.{reverse-cons, reverse-append, reverse-reverse}
+use mathlib.Core.List.{reverse-cons}
 use Rattle.std.specs.Int.Bits.{xor_assoc, xor_self, xor_zero_l}
 use Rattle.std.proofs.lemmas.List.{take_more, take_all, length-append, length-reverse}
 use Rattle.magma.specs.Magma.{g, G, applied, rounds, round_keys}
 
-applied_append : (xs ys : List ℕ) (a : ℕ × ℕ) → applied (xs ++ ys) a ≡ applied ys (applied xs a)
+pub applied_append : (xs ys : List ℕ) (a : ℕ × ℕ) → applied (xs ++ ys) a ≡ applied ys (applied xs a)
 applied_append [] ys a = refl
 applied_append (x ∷ xs) ys a = applied_append xs ys (G x a)
 
@@ -18,7 +18,7 @@ abbrev pub swapped : ℕ × ℕ → ℕ × ℕ
 swapped a = (a.1, a.0)
 
 -- the last round is one like the others, and a swap
-rounds_applied : (ks : List ℕ) (a : ℕ × ℕ) → length ks ≡ 32 → rounds ks a ≡ swapped (applied ks a)
+pub rounds_applied : (ks : List ℕ) (a : ℕ × ℕ) → length ks ≡ 32 → rounds ks a ≡ swapped (applied ks a)
 unfolding rounds
 rounds_applied ks a h = ap swapped (sym (applied_more ks 31 a (omega arith)) ∙ ap (λ l. applied l a) (take_all 32 ks (omega arith)))
 
@@ -41,16 +41,3 @@ rounds_back ks a h =
 
 pub length_round_keys : (ks : List ℕ) → length ks ≡ 8 → length (round_keys ks) ≡ 32
 length_round_keys ks h = simp (length-append, length-reverse) (omega arith)
-
--- the keys three times forward, and once backward
-pub rounds_forward : (ks : List ℕ) (a : ℕ × ℕ) → length ks ≡ 8
-    → rounds (round_keys ks) a ≡ swapped (applied (reverse ks) (applied ks (applied ks (applied ks a))))
-rounds_forward ks a h =
-    let e : applied (round_keys ks) a ≡ applied (reverse ks) (applied ks (applied ks (applied ks a))) = simp applied_append in
-    rounds_applied (round_keys ks) a (length_round_keys ks h) ∙ ap swapped e
-
-pub rounds_backward : (ks : List ℕ) (a : ℕ × ℕ) → length ks ≡ 8
-    → rounds (reverse (round_keys ks)) a ≡ swapped (applied (reverse ks) (applied (reverse ks) (applied (reverse ks) (applied ks a))))
-rounds_backward ks a h =
-    let e : applied (reverse (round_keys ks)) a ≡ applied (reverse ks) (applied (reverse ks) (applied (reverse ks) (applied ks a))) = simp (reverse-append, reverse-reverse, applied_append) in
-    rounds_applied (reverse (round_keys ks)) a (length-reverse (round_keys ks) ∙ length_round_keys ks h) ∙ ap swapped e

@@ -1,4 +1,4 @@
--- What the test of a row gives. Assumes nothing.
+-- What the test of a row gives: the law of a cipher rests on it. Assumes nothing.
 use Rattle.std.specs.Prelude.{◌≡◌, ℕ, zero, suc, ◌%◌, ◌<◌, ◌&&◌, T, List, [], ◌∷◌, length, ◌==◌, nat_lt, slice_index}
 use Rattle.std.proofs.Common.{le_of_suc-le-suc, not-suc-le-zero, arith, eqb→eq, ltb→lt}
 use Rattle.cipher.proofs.Every.{left, right}

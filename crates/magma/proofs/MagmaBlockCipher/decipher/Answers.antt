@@ -1,6 +1,6 @@
 use Rattle.std.proofs.Common.{◌++◌, reverse, drop, sym, ap, ◌∙◌}
 use Rattle.magma.specs.Magma.{dec, rounds, round_keys, whole}
-use Rattle.magma.specs.WordsAndBytes.{halves_front}
+use Rattle.magma.proofs.WordsAndBytes.{halves_front}
 use Rattle.magma.proofs.MagmaBlockCipher.decipher.Goals as goal
 
 pub returns : goal.returns

@@ -1,6 +1,6 @@
 use Rattle.std.proofs.Common.{◌++◌, drop, sym, ap, ◌∙◌}
 use Rattle.magma.specs.Magma.{enc, rounds, round_keys, whole}
-use Rattle.magma.specs.WordsAndBytes.{halves_front}
+use Rattle.magma.proofs.WordsAndBytes.{halves_front}
 use Rattle.magma.proofs.MagmaBlockCipher.encipher.Goals as goal
 
 pub returns : goal.returns

@@ -1,13 +1,13 @@
 use Rattle.std.proofs.Common.{sym, ap, ◌∙◌, arith}
 use Rattle.std.proofs.lemmas.List.{take_all}
 use Rattle.magma.specs.Magma.{key_words, key_bytes}
-use Rattle.magma.specs.WordsAndBytes.{key_again}
+use Rattle.magma.proofs.WordsAndBytes.{key_again}
 use Rattle.magma.proofs.MagmaBlockCipher.schedule.Goals as goal
 
 pub invariant_of-result : goal.invariant_of-result
 invariant_of-result c =
     let ks = c.key_words.ensures in
-    (ap key_words (ap key_bytes ks ∙ key_again c.args.key.now c.fits-key c.told-key) ∙ sym ks, tt)
+    record { kept = ap key_words (ap key_bytes ks ∙ key_again c.args.key.now c.fits-key c.told-key) ∙ sym ks }
 
 pub returns : goal.returns
 returns c =

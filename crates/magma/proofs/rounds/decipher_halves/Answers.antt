@@ -1,4 +1,4 @@
-use Rattle.magma.specs.Feistel.{rounds_backward}
+use Rattle.magma.proofs.Feistel.{rounds_backward}
 use Rattle.magma.proofs.rounds.decipher_halves.Goals as goal
 
 pub returns : goal.returns

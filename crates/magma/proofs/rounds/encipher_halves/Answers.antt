@@ -1,4 +1,4 @@
-use Rattle.magma.specs.Feistel.{rounds_forward}
+use Rattle.magma.proofs.Feistel.{rounds_forward}
 use Rattle.magma.proofs.rounds.encipher_halves.Goals as goal
 
 pub returns : goal.returns
