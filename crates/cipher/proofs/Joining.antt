@@ -1,8 +1,8 @@
 -- Blocks at the front of a buffer, and blocks joined to a key. Assumes nothing.
-use Rattle.std.proofs.Common.{◌≡◌, ℕ, zero, suc, ◌+◌, ◌-◌, ◌*◌, ◌≤◌, List, [], ◌∷◌, ◌++◌, map, length, take, drop, replicate, sym, ap, ◌∙◌, append_assoc, add-suc, suc-mul, add-one, arith}
+use Rattle.std.proofs.Common.{◌≡◌, ℕ, ◌+◌, ◌-◌, ◌*◌, ◌≤◌, List, [], ◌∷◌, ◌++◌, map, length, take, drop, replicate, sym, ap, ◌∙◌, append_assoc, suc-mul, add-one, arith}
 use borrow.Rule.Slice.PartMut.{put_mid}
 use Rattle.std.specs.List.{range_with_len, flat_map}
-use Rattle.std.proofs.lemmas.List.{length-append, length-drop, length-take, length-replicate, take_at, drop_at, drop-append-le, drop-replicate, flat_map_more}
+use Rattle.std.proofs.lemmas.List.{length-append, length-drop, length-take, length-replicate, take_at, drop_at, drop-replicate, flat_map_more}
 use Rattle.std.proofs.lemmas.List.FromFn.{map-range_with_len_more}
 
 -- what a write to the first n bytes leaves there

@@ -1,6 +1,6 @@
 -- A word of 32 bits and its four bytes. Assumes nothing.
 use Rattle.std.proofs.Common.{◌≡◌, ℕ, zero, suc, ◌+◌, ◌*◌, ◌/◌, ◌%◌, ◌^◌, ◌<◌, List, [], ◌∷◌, get_or, mod-eq_of_lt, arith}
-use Rattle.std.specs.List.{AllByRecursion as All}
+use Rattle.std.specs.List.{AllByRecursion}
 use Rattle.std.proofs.lemmas.Nat.{shr-shr, div-add-mod'}
 use Rattle.cipher.specs.Bytes.{word_bytes, word}
 
@@ -24,10 +24,10 @@ digits w h =
 pub word_of_bytes : (w : ℕ) → w < 2 ^ 32 → word (word_bytes w) 0 ≡ w
 word_of_bytes w h = rw (← shr-shr w 16 8, ← shr-shr w 8 8) (digits w h)
 
-pub small_bytes : (w : ℕ) → All (λ x. x < 256) (word_bytes w)
+pub small_bytes : (w : ℕ) → AllByRecursion (λ x. x < 256) (word_bytes w)
 small_bytes w = (omega arith, (omega arith, (omega arith, (omega arith, tt))))
 
-pub small_at : (b : List ℕ) → All (λ x. x < 256) b → (k : ℕ) → get_or b k 0 < 256
+pub small_at : (b : List ℕ) → AllByRecursion (λ x. x < 256) b → (k : ℕ) → get_or b k 0 < 256
 small_at [] h k = omega arith
 small_at (x ∷ b) h zero = h.0
 small_at (x ∷ b) h (suc k) = small_at b h.1 k

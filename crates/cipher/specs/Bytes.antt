@@ -1,11 +1,11 @@
 -- Bytes, and numbers written in bytes. Assumes nothing.
 use Rattle.std.specs.Prelude.{◌≡◌, ℕ, zero, suc, ◌+◌, ◌*◌, ◌/◌, ◌%◌, ◌^◌, ◌<◌, List, [], ◌∷◌, length, slice_index}
-use Rattle.std.specs.List.{AllByRecursion as All}
+use Rattle.std.specs.List.{AllByRecursion}
 
 -- n bytes
 pub record Bytes (n : ℕ) (b : List ℕ) : Type 0 where
   pub long : length b ≡ n
-  pub small : All (λ x. x < 256) b
+  pub small : AllByRecursion (λ x. x < 256) b
 
 -- the number t in n bytes, highest byte first
 abbrev pub number : ℕ → ℕ → List ℕ

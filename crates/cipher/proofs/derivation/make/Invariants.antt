@@ -1,4 +1,4 @@
-use Rattle.std.proofs.Common.{◌≡◌, ℕ, ◌-◌, ◌*◌, ◌/◌, ◌≤◌, ◌++◌, length, take, replicate}
+use Rattle.std.proofs.Common.{◌≡◌, ◌-◌, ◌*◌, ◌++◌, length, take, replicate}
 use Rattle.std.specs.List.{range_with_len, flat_map}
 use Rattle.cipher.specs.KeyBlocks.{block}
 use Rattle.cipher.proofs.derivation.make.Given as goal

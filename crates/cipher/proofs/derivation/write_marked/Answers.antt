@@ -1,5 +1,5 @@
-use Rattle.std.proofs.Common.{◌≡◌, ℕ, ◌-◌, ◌/◌, ◌≤◌, List, ◌++◌, length, take, drop, replicate, sym, ap, ◌∙◌, append-nil, arith}
-use Rattle.std.proofs.lemmas.List.{length-drop, length-take, length-replicate, take-replicate, drop_all}
+use Rattle.std.proofs.Common.{◌≡◌, ◌-◌, ◌/◌, ◌++◌, length, take, drop, replicate, ap, ◌∙◌, append-nil, arith}
+use Rattle.std.proofs.lemmas.List.{length-drop, length-take, take-replicate, drop_all}
 use Rattle.cipher.specs.Bytes.{number}
 use Rattle.cipher.specs.Derivation.{marked}
 use Rattle.cipher.proofs.derivation.write_marked.Goals as goal
