@@ -1,7 +1,8 @@
 -- What the bottom sources owe. Assumes nothing.
-use Rattle.std.proofs.Common.{◌≡◌, ℕ, suc, ◌+◌, ◌*◌, ◌<◌, ◌≤◌, false, cond, List, length, sym, ap, ◌∙◌, mul-le-mul_right, suc-mul, arith, eq-eqb}
+use Rattle.std.proofs.Common.{◌≡◌, ℕ, suc, ◌+◌, ◌*◌, ◌<◌, ◌≤◌, false, List, length, sym, ap, ◌∙◌, mul-le-mul_right, suc-mul, arith, eq-eqb}
 use mathlib.Core.HLevel.{is_prop→PathP}
 use native.Mathlib.Bridge.{le_prop}
+use Rattle.cipher.specs.declared.block_cipher.BlockCipher.{Ghosts}
 use Rattle.keys.specs.Stack.{bottom}
 use Rattle.keys.specs.Bottom.{opened, rooted, founded}
 use Rattle.keys.specs.declared.ring.Ring.{Ring}
@@ -18,8 +19,8 @@ pub key_within : (i m w n : ℕ) → i < m → m * w ≤ n → i * w + w ≤ n
 key_within i m w n l h = let x : suc i * w ≤ m * w = mul-le-mul_right w l in omega (arith, suc-mul i w)
 
 -- a ring whose tally is as it was is as it was
-pub ring_same : {D : Type 0} (r : Ring D) (t : Tally) (h : t.count * r.width ≤ length r.keys.now) (n : r.width ≤ 32) → t ≡ r.tally
-    → ◌≡◌ {A = Ring D} (record { keys = r.keys; width = r.width; cipher = r.cipher; tally = t; held = h; narrow = n }) r
+pub ring_same : {D : Type 0} {B : Ghosts D} (r : Ring D B) (t : Tally) (h : t.count * r.width ≤ length r.keys.now) (n : r.width ≤ 32) → t ≡ r.tally
+    → ◌≡◌ {A = Ring D B} (record { keys = r.keys; width = r.width; cipher = r.cipher; tally = t; held = h; narrow = n }) r
 ring_same r t h n e =
     λ i. record {
       keys = r.keys;

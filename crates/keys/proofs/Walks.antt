@@ -1,5 +1,5 @@
 -- A walk in order makes each key of each level once. Assumes nothing.
-use Rattle.std.proofs.Common.{◌≡◌, ℕ, zero, suc, ◌+◌, ◌-◌, ◌*◌, ◌/◌, ◌%◌, ◌<◌, ◌≤◌, ◌⊎◌, List, [], ◌∷◌, ◌++◌, length, take, drop, Some, None, Option, sym, refl, ap, ◌∙◌, subst, inl, inr, mod-lt, suc-mul, mul-pos, div-add-mod', div-le_self, add-one, arith}
+use Rattle.std.proofs.Common.{◌≡◌, ℕ, zero, suc, ◌+◌, ◌-◌, ◌*◌, ◌/◌, ◌%◌, ◌<◌, ◌≤◌, List, ◌++◌, length, drop, Some, None, Option, sym, ap, ◌∙◌, subst, inl, inr, mod-lt, suc-mul, mul-pos, div-add-mod', div-le_self, arith}
 use native.Mathlib.Nat.{zero-div}
 use lib.Arith.{digits_div, digits_mod}
 use Rattle.std.proofs.lemmas.List.{length-append, length-drop, drop_at}
@@ -9,7 +9,7 @@ use Rattle.rules.proofs.Inner.{quota_ranged}
 use Rattle.keys.specs.declared.refusals.MoveFault.{MoveFault}
 use Rattle.keys.specs.declared.refusals.MoveFault.TheVariants.{PastCount}
 use Rattle.keys.specs.Stack.{Stack, bottom, on, refused, count, quotas, levels, above, quota_of, Accepted}
-use Rattle.keys.specs.Moving.{capped, div, Rises, Raised, Moved, move_refusal}
+use Rattle.keys.specs.Moving.{div, Rises, Moved, move_refusal}
 use Rattle.keys.specs.Walks.{Walked}
 
 above_some : (s : Stack) (j : ℕ) → Accepted s → 1 ≤ above (quotas s) j

@@ -1,7 +1,6 @@
 -- Bottom sources: what one made of a buffer is, and what it means by the little that it keeps.
 -- Assumes nothing.
 use Rattle.std.specs.Prelude.{ℕ, ◌*◌, ◌/◌, ◌%◌, Bool, false, cond, ◌&&◌, List, [], ◌∷◌, length, take, drop, ◌==◌, nat_le, nat_lt}
-use Rattle.keys.specs.declared.refusals.MakingFault.{MakingFault}
 use Rattle.keys.specs.declared.refusals.MakingFault.TheVariants.{KeyLength}
 use Rattle.keys.specs.Refusals.{of_buffer, making_refusal, making_number, noted}
 use Rattle.keys.specs.Stack.{Stack, bottom, refused}

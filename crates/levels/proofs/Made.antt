@@ -1,5 +1,5 @@
 -- What the making of a level leaves. Assumes nothing.
-use Rattle.std.proofs.Common.{◌≡◌, ℕ, ◌*◌, ◌<◌, ◌≤◌, min, Bool, true, false, cond, not, ◌&&◌, eqb, ltb, leb, ◌⊎◌, List, ◌∷◌, length, is_some, Some, None, Option, sym, refl, ap, ◌∙◌, subst, inl, inr, mul-pos, arith, MatchOption}
+use Rattle.std.proofs.Common.{◌≡◌, ℕ, ◌*◌, ◌<◌, ◌≤◌, Bool, true, false, cond, not, ◌&&◌, ltb, leb, List, ◌∷◌, length, is_some, Some, None, Option, sym, refl, ap, ◌∙◌, subst, inl, inr, mul-pos, arith}
 use Rattle.std.proofs.lemmas.Bool.Decides.{nat_tests, eqb_tells}
 use Rattle.cipher.specs.Model.{Model}
 use Rattle.rules.specs.Levels.{Level, quota, renews, ranged}
@@ -7,7 +7,7 @@ use Rattle.rules.proofs.Inner.{quota_ranged}
 use Rattle.keys.specs.declared.refusals.MakingFault.{MakingFault}
 use Rattle.keys.specs.declared.refusals.MakingFault.TheVariants.{KeyLength, OutOfRange, NotFresh, KeysRenewed, TooLarge}
 use Rattle.keys.specs.declared.refusals.Note.{Note}
-use Rattle.keys.specs.Refusals.{making_number, noted}
+use Rattle.keys.specs.Refusals.{making_number}
 use Rattle.keys.specs.Stack.{Stack, on, refused, bottom, count, quotas, levels, note, renews_keys, Accepted}
 use Rattle.keys.specs.Sources.{Facts}
 use Rattle.levels.specs.Making.{barred_by, barred, idle_quotas, left_by, stood, AtLimit}

@@ -1,20 +1,20 @@
 -- What a level is, and what a move makes of it. Assumes nothing.
-use Rattle.std.proofs.Common.{◌≡◌, ℕ, zero, suc, ◌+◌, ◌-◌, ◌*◌, ◌/◌, ◌%◌, ◌<◌, ◌≤◌, Bool, true, false, cond, ◌&&◌, eqb, ltb, leb, ◌⊎◌, List, [], ◌∷◌, ◌++◌, length, take, drop, IfSome, Some, None, Option, sym, refl, ap, ◌∙◌, subst, inl, inr, mul-le-mul_right, mod-lt, div-add-mod', zero-mul, div-one, arith, MatchOption}
+use Rattle.std.proofs.Common.{◌≡◌, ℕ, suc, ◌+◌, ◌-◌, ◌*◌, ◌/◌, ◌%◌, ◌<◌, ◌≤◌, Bool, true, false, cond, ◌&&◌, eqb, ltb, List, ◌∷◌, ◌++◌, length, take, drop, IfSome, Some, None, Option, sym, refl, ap, ◌∙◌, subst, inl, inr, mul-le-mul_right, mod-lt, div-add-mod', div-one, arith, MatchOption}
 use native.Mathlib.Nat.{div-div-eq-div-mul}
 use lib.Arith.{digits_div}
 use Rattle.std.proofs.lemmas.Bool.Decides.{nat_tests, eqb_tells, leb_tells}
 use Rattle.cipher.specs.Model.{Model}
-use Rattle.rules.specs.Levels.{Level, quota, ranged, renews_own}
+use Rattle.rules.specs.Levels.{Level, renews_own}
 use Rattle.rules.specs.LevelKeys.{level_key}
 use Rattle.rules.specs.InnerKeys.{stage, given, inner_key}
 use Rattle.rules.proofs.Inner.{by_inner, stage_rises}
 use Rattle.keys.specs.declared.refusals.MoveFault.{MoveFault}
 use Rattle.keys.specs.declared.refusals.MoveFault.TheVariants.{PastCount}
 use Rattle.keys.specs.declared.refusals.Note.{Note}
-use Rattle.keys.specs.Stack.{Stack, bottom, on, refused, count, quotas, levels, key, entry, quota_of, above, Accepted}
+use Rattle.keys.specs.Stack.{Stack, on, refused, count, quotas, levels, key, entry, above}
 use Rattle.keys.specs.Moving.{capped, div, Next, Rises, Raised, Moved, move_refusal}
 use Rattle.levels.specs.Making.{idle_quotas}
-use Rattle.levels.specs.LevelState.{stack_of, ledgers_of, Inner, Advanced, Here, Stands, Sits, onward, first_of}
+use Rattle.levels.specs.LevelState.{stack_of, ledgers_of, Inner, Here, Stands, Sits, onward, first_of}
 
 -- the source below does not refuse
 pub no_refusal : {i m : ℕ} (q : ℕ) (s : Stack) (f : MoveFault) → i < m → m ≡ count s * q → (move_refusal f).given s (i / q) → ⊥

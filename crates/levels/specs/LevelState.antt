@@ -8,7 +8,7 @@ use Rattle.keys.specs.declared.refusals.MakingFault.{MakingFault}
 use Rattle.keys.specs.declared.refusals.Note.{Note}
 use Rattle.keys.specs.Refusals.{making_number, noted}
 use Rattle.keys.specs.Stack.{Stack, on, refused, count, levels, key, Accepted}
-use Rattle.levels.specs.Making.{idle_quotas, left_by, barred_by}
+use Rattle.levels.specs.Making.{idle_quotas, barred_by}
 use Rattle.keys.specs.Moving.{div}
 
 -- the stack of a level of m keys on s: a refused one has none

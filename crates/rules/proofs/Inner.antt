@@ -1,5 +1,5 @@
 -- The keys of a level come from its inner keys. Assumes nothing.
-use Rattle.std.proofs.Common.{◌≡◌, ℕ, zero, suc, ◌*◌, ◌/◌, ◌≤◌, true, List, sym, refl, le-div_iff_mul-le, div-mul-le_self, arith}
+use Rattle.std.proofs.Common.{◌≡◌, ℕ, zero, suc, ◌/◌, ◌≤◌, true, List, refl, le-div_iff_mul-le, div-mul-le_self, arith}
 use native.Mathlib.Nat.{div-zero}
 use Rattle.std.proofs.lemmas.Bool.Decides.{nat_tests}
 use Rattle.cipher.specs.Model.{Model}

@@ -1,6 +1,6 @@
-use Rattle.std.proofs.Common.{◌≡◌, ℕ, suc, ◌+◌, ◌<◌, ◌≤◌, ◌++◌, length, drop, sym, refl, ap, ◌∙◌, subst, add-one, arith}
+use Rattle.std.proofs.Common.{◌≡◌, ◌<◌, ◌≤◌, ◌++◌, sym, ap, ◌∙◌, subst, add-one, arith}
 use Rattle.cipher.proofs.Sizes.{key_within}
-use Rattle.keys.specs.Stack.{Stack, count, quotas, key}
+use Rattle.keys.specs.Stack.{count, quotas, key}
 use Rattle.std.proofs.lemmas.Result.{MatchResult-weaker}
 use Rattle.keys.specs.Moving.{Moved}
 use Rattle.keys.specs.Walks.{Walked}

@@ -1,4 +1,4 @@
-use Rattle.std.proofs.Common.{◌≡◌, Some, None, sym, refl, ap, ◌∙◌, arith}
+use Rattle.std.proofs.Common.{Some, None, refl, arith}
 use Rattle.keys.specs.Refusals.{noted}
 use Rattle.levels.proofs.Made.{settled_by}
 use Rattle.levels.proofs.step.Step.settle.Goals as goal
