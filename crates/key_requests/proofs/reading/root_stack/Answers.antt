@@ -1,6 +1,5 @@
 use Rattle.std.proofs.Common.{◌≡◌, ℕ, List, codes}
 use mathlib.Core.Bool.{false≢true}
-use Rattle.stacks.specs.declared.plan.Plan.{Plan}
 use Rattle.stacks.specs.declared.plan.Plan.TheVariants.{AxisChain, AxisMaster, AxisSerialChain, AxisFanFanChain, OneFan, OneSerial, OneChain, OneMaster}
 use Rattle.key_requests.specs.Requests.{MasterWord, NotRootStack}
 use Rattle.key_requests.proofs.reading.root_stack.Goals as goal
