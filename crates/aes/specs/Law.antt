@@ -3,7 +3,7 @@ use Rattle.std.specs.Prelude.{◌≡◌, ℕ, zero, suc, ◌+◌, ◌-◌, ◌*�
 use Rattle.std.proofs.Common.{sym, ap, ◌∙◌, inr}
 use Rattle.std.proofs.lemmas.List.FromFn.{fill_by_all}
 use Rattle.std.proofs.lemmas.Nat.{xor_lt}
-use Rattle.std.specs.List.{range_with_len, AllByRecursion as All}
+use Rattle.std.specs.List.{range_with_len, AllByRecursion}
 use Rattle.std.proofs.ByRecursion.{All-map, All-from_get_or}
 use Rattle.cipher.specs.Bytes.{Bytes, word_bytes}
 use Rattle.cipher.specs.Model.{Laws}
@@ -21,7 +21,7 @@ spread s l = sym (fill_by_all (λ i. slice_index s i) s 16 0 l (λ k h. refl))
 
 -- every number of the list is a byte
 abbrev Small : List ℕ → Type 0
-Small = All (λ x. x < 256)
+Small = AllByRecursion (λ x. x < 256)
 
 small_state : (f : ℕ → ℕ → ℕ) → ((r c : ℕ) → f r c < 256) → Small (state f)
 small_state f h =

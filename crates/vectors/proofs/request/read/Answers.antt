@@ -1,5 +1,5 @@
-use Rattle.std.proofs.Common.{◌≡◌, [], ◌∷◌, map, length, get_or, drop, sym, ap, ◌∙◌, subst, arith, ltb-false, ltb-true}
-use Rattle.vectors.specs.Requests.{action_word, Read}
+use Rattle.std.proofs.Common.{[], ◌∷◌, map, get_or, drop, sym, ap, ◌∙◌, subst, arith, ltb-false, ltb-true}
+use Rattle.vectors.specs.Requests.{Read}
 use Rattle.vectors.proofs.Fields.{no_word, first, four, not_three}
 use Rattle.vectors.proofs.request.read.Goals as goal
 
@@ -17,8 +17,8 @@ returns-in_default-words c =
       not_three (λ x. x.now) no_word ws (λ e. omega (arith, ltb-true, ltb-false)) c.requires,
     )
 
-pub returns-in-default-words·2 : goal.returns-in_default-words·2
-returns-in-default-words·2 c =
+pub returns-in_default-words-2 : goal.returns-in_default-words-2
+returns-in_default-words-2 c =
     let ws = c.args.words.now in (
       c.in-Some.action,
       map (λ x. x.now) (drop 1 ws),
