@@ -18,7 +18,7 @@ fn word(b: &[u8], i: usize) -> u32
 
 // The words of the number i, enciphered and summed.
 fn turn<C: BlockCipher>(cipher: &C, i: u32) -> u32
-    ensures { result ≡ folded (enciphered C.model (C.keyed cipher.now) (counter i)) }
+    ensures { result ≡ folded (enciphered C.BlockCipher.model (C.BlockCipher.keyed cipher.now) (counter i)) }
 {
     let [a, b, c, d] = i.to_be_bytes();
     let mut block = [0, 0, 0, 0, 0, 0, 0, 0, 0, 0, 0, 0, a, b, c, d];
@@ -28,7 +28,7 @@ fn turn<C: BlockCipher>(cipher: &C, i: u32) -> u32
 
 #[tactic(auto, unfolding(crate::specs::Counter::checksum))]
 fn sum<C: BlockCipher>(cipher: &C, count: u32) -> u32
-    ensures { result ≡ checksum C.model (C.keyed cipher.now) count }
+    ensures { result ≡ checksum C.BlockCipher.model (C.BlockCipher.keyed cipher.now) count }
 {
     let mut all = 0;
     for i in 0..count {
