@@ -1,5 +1,5 @@
 -- The bytes of a sum of words, and of a word rotated. Assumes nothing.
-use Rattle.std.specs.Prelude.{◌≡◌, ℕ, ◌+◌, ◌*◌, ◌/◌, ◌%◌, ◌^◌, ◌<◌, List, [], ◌∷◌, bit_or, slice_index_or}
+use Rattle.std.specs.Prelude.{◌≡◌, ℕ, ◌+◌, ◌*◌, ◌/◌, ◌%◌, ◌^◌, ◌<◌, List, [], ◌∷◌, bit_or, slice_index}
 use Rattle.std.proofs.Common.{sym, ap, ◌∙◌, arith}
 use Rattle.std.proofs.lemmas.Nat.{or_comm, xor_shr, xor_mod}
 use Rattle.std.specs.Int.Bits.{or_shifted_r}
@@ -10,7 +10,7 @@ use Rattle.aes.specs.Aes.{rot_word}
 
 -- the sum of two columns
 abbrev pub sum4 : List ℕ → List ℕ → List ℕ
-sum4 a b = slice_index_or a 0 0 ⊕ slice_index_or b 0 0 ∷ slice_index_or a 1 0 ⊕ slice_index_or b 1 0 ∷ slice_index_or a 2 0 ⊕ slice_index_or b 2 0 ∷ slice_index_or a 3 0 ⊕ slice_index_or b 3 0 ∷ []
+sum4 a b = slice_index a 0 ⊕ slice_index b 0 ∷ slice_index a 1 ⊕ slice_index b 1 ∷ slice_index a 2 ⊕ slice_index b 2 ∷ slice_index a 3 ⊕ slice_index b 3 ∷ []
 
 byte_xor : (x y k : ℕ) → (x ⊕ y) / 2 ^ k % 2 ^ 8 ≡ x / 2 ^ k % 2 ^ 8 ⊕ y / 2 ^ k % 2 ^ 8
 byte_xor x y k = ap (λ n. n % 2 ^ 8) (xor_shr x y k) ∙ xor_mod (x / 2 ^ k) (y / 2 ^ k) 8

@@ -1,6 +1,6 @@
 -- AES (FIPS 197 of 2023, section 5). Assumes nothing.
 -- A state is a list of 16 bytes: byte i stands in row i mod 4, column i div 4.
-use Rattle.std.specs.Prelude.{ℕ, zero, suc, ◌+◌, ◌-◌, ◌*◌, ◌/◌, ◌%◌, ◌^◌, cond, ◌&&◌, List, [], ◌∷◌, ◌++◌, map, ◌==◌, nat_lt, slice_index, slice_index_or}
+use Rattle.std.specs.Prelude.{ℕ, zero, suc, ◌+◌, ◌-◌, ◌*◌, ◌/◌, ◌%◌, ◌^◌, cond, ◌&&◌, List, [], ◌∷◌, ◌++◌, map, ◌==◌, nat_lt, slice_index}
 use Rattle.std.specs.List.{range_with_len}
 use Rattle.cipher.specs.Bytes.{word, word_bytes}
 use Rattle.cipher.specs.Model.{Model}
@@ -36,7 +36,7 @@ column s c = at s 0 c ∷ at s 1 c ∷ at s 2 c ∷ at s 3 c ∷ []
 
 -- a row of a matrix times a column (4.3)
 abbrev pub product : (p q r s : ℕ) → List ℕ → ℕ
-product p q r s b = p • slice_index_or b 0 0 ⊕ q • slice_index_or b 1 0 ⊕ r • slice_index_or b 2 0 ⊕ s • slice_index_or b 3 0
+product p q r s b = p • slice_index b 0 ⊕ q • slice_index b 1 ⊕ r • slice_index b 2 ⊕ s • slice_index b 3
 
 -- a matrix times a column (4.3): its first row is p q r s, and each further row is the one before it, turned
 abbrev pub circulant : (p q r s : ℕ) → List ℕ → List ℕ
@@ -48,7 +48,7 @@ mix_columns s = state (λ r c. slice_index (circulant 0x02 0x03 0x01 0x01 (colum
 
 -- AddRoundKey (5.1.4): k is four words, a word for each column
 unfoldable pub add_round_key : List ℕ → List ℕ → List ℕ
-add_round_key s k = state (λ r c. at s r c ⊕ slice_index_or (word_bytes (slice_index k c)) r 0)
+add_round_key s k = state (λ r c. at s r c ⊕ slice_index (word_bytes (slice_index k c)) r)
 
 -- w[4 * n .. 4 * n + 3]
 abbrev pub round_key : List ℕ → ℕ → List ℕ
@@ -94,7 +94,7 @@ expanded nk zero key = map (λ i. word key (4 * i)) (range_with_len 0 nk)
 expanded nk (suc n) key =
     let w : List ℕ = expanded nk n key in
     let i : ℕ = nk + n in
-    w ++ (slice_index_or w (i - nk) 0 ⊕ temp nk i (slice_index w (i - 1))) ∷ []
+    w ++ (slice_index w (i - nk) ⊕ temp nk i (slice_index w (i - 1))) ∷ []
 
 -- KeyExpansion (5.2), for nr rounds
 abbrev pub key_expansion : ℕ → ℕ → List ℕ → List ℕ

@@ -1,5 +1,5 @@
 -- InvCipher undoes Cipher, with any number of rounds and any words. Assumes nothing.
-use Rattle.std.specs.Prelude.{◌≡◌, ℕ, zero, suc, ◌+◌, ◌-◌, ◌*◌, ◌/◌, ◌%◌, ◌<◌, List, length, slice_index, slice_index_or, refl}
+use Rattle.std.specs.Prelude.{◌≡◌, ℕ, zero, suc, ◌+◌, ◌-◌, ◌*◌, ◌/◌, ◌%◌, ◌<◌, List, length, slice_index, refl}
 use Rattle.std.proofs.Common.{sym, ap, ◌∙◌, inr}
 use Rattle.std.proofs.lemmas.List.FromFn.{fill_by_all}
 use Rattle.std.proofs.lemmas.Nat.{xor_lt}
@@ -48,10 +48,10 @@ shifted_undone s l h = (λ j. state (λ r c. inv_s_box_s_box (at s r c) (small_a
 
 small_product : (p q r s : ℕ) (b : List ℕ) → Small b → product p q r s b < 256
 small_product p q r s b h =
-    let m : (k i : ℕ) → k • slice_index_or b i 0 < 256 = λ k i. product_below k (slice_index b i) (small_at b h i) in
-    let two = xor_lt 8 (p • slice_index_or b 0 0) (q • slice_index_or b 1 0) (m p 0) (m q 1) in
-    let three = xor_lt 8 (p • slice_index_or b 0 0 ⊕ q • slice_index_or b 1 0) (r • slice_index_or b 2 0) two (m r 2) in
-    xor_lt 8 (p • slice_index_or b 0 0 ⊕ q • slice_index_or b 1 0 ⊕ r • slice_index_or b 2 0) (s • slice_index_or b 3 0) three (m s 3)
+    let m : (k i : ℕ) → k • slice_index b i < 256 = λ k i. product_below k (slice_index b i) (small_at b h i) in
+    let two = xor_lt 8 (p • slice_index b 0) (q • slice_index b 1) (m p 0) (m q 1) in
+    let three = xor_lt 8 (p • slice_index b 0 ⊕ q • slice_index b 1) (r • slice_index b 2) two (m r 2) in
+    xor_lt 8 (p • slice_index b 0 ⊕ q • slice_index b 1 ⊕ r • slice_index b 2) (s • slice_index b 3) three (m s 3)
 
 small_mixed : (s : List ℕ) → Small s → Small (mix_columns s)
 small_mixed s h =

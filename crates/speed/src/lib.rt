@@ -1,4 +1,4 @@
-// Counter mode, for the benchmark of speed/run.
+// Counter mode, for the benchmark of speed/run, which calls it through speed_c.
 #![tactic(auto)]
 
 ghost use Rattle.std.specs.Prelude.{◌≡◌, ◌+◌, ◌<◌, length, replicate};
@@ -18,7 +18,7 @@ fn word(b: &[u8], i: usize) -> u32
 
 // The words of the number i, enciphered and summed.
 fn turn<C: BlockCipher>(cipher: &C, i: u32) -> u32
-    ensures { result ≡ folded (enciphered model (keyed cipher.now) (counter i)) }
+    ensures { result ≡ folded (enciphered C.BlockCipher.model (C.BlockCipher.keyed cipher.now) (counter i)) }
 {
     let [a, b, c, d] = i.to_be_bytes();
     let mut block = [0, 0, 0, 0, 0, 0, 0, 0, 0, 0, 0, 0, a, b, c, d];
@@ -26,8 +26,9 @@ fn turn<C: BlockCipher>(cipher: &C, i: u32) -> u32
     (word(&block, 0) ^ word(&block, 4)) ^ (word(&block, 8) ^ word(&block, 12))
 }
 
+#[tactic(auto, unfolding(crate::specs::Counter::checksum))]
 fn sum<C: BlockCipher>(cipher: &C, count: u32) -> u32
-    ensures { result ≡ checksum model (keyed cipher.now) count }
+    ensures { result ≡ checksum C.BlockCipher.model (C.BlockCipher.keyed cipher.now) count }
 {
     let mut all = 0;
     for i in 0..count {
@@ -37,8 +38,7 @@ fn sum<C: BlockCipher>(cipher: &C, count: u32) -> u32
 }
 
 // The numbers below count, enciphered by AES-256 under a key of sevens, and summed.
-#[unsafe(no_mangle)]
-pub extern "C" fn rattle_aes(count: u32) -> u32
+pub fn rattle_aes(count: u32) -> u32
     ensures { result ≡ checksum the_model (replicate 32 7) count }
 {
     sum(&Aes256::schedule(&[7; 32]), count)

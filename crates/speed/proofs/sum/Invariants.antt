@@ -1,4 +1,4 @@
-use mathlib.Core.Path.{◌≡◌}
+use Rattle.std.proofs.Common.{◌≡◌}
 use Rattle.speed.specs.Counter.{checksum}
 use Rattle.speed.proofs.sum.Given as goal
 

@@ -1,8 +1,5 @@
-use mathlib.Core.Path.{ap, ◌∙◌}
-use mathlib.Core.List.{List, [], ◌∷◌, ◌++◌}
-use Prim.Native.Nat.{ℕ}
-use lib.Bits.{bit_xor}
-use lib.ListN.{get_or, replicate}
+use Rattle.std.proofs.Common.{ℕ, List, [], ◌∷◌, ◌++◌, get_or, replicate, ap, ◌∙◌}
+use Rattle.std.specs.Prelude.{bit_xor}
 use Rattle.speed.specs.Counter.{enciphered, folded}
 use Rattle.speed.proofs.turn.Goals as goal
 
