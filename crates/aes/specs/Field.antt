@@ -6,7 +6,7 @@ infixl 68 ◌⊕◌
 abbrev pub ◌⊕◌ : ℕ → ℕ → ℕ
 ◌⊕◌ a b = bit_xor a b
 
--- x_times (4.2): where the highest bit is 1, 1B makes up for it
+-- xTimes (4.2): where the highest bit is 1, 1B makes up for it
 unfoldable pub x_times : ℕ → ℕ
 x_times b = b * 2 % 256 ⊕ b / 128 % 2 * 0x1B
 

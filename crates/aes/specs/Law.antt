@@ -55,16 +55,16 @@ small_product p q r s b h =
 
 small_mixed : (s : List ℕ) → Small s → Small (mix_columns s)
 small_mixed s h =
-    let at-s : (r c : ℕ) → at s r c < 256 = λ r c. small_at s h (r + 4 * c) in
-    let col : (c : ℕ) → Small (column s c) = λ c. (at-s 0 c, (at-s 1 c, (at-s 2 c, (at-s 3 c, tt)))) in
+    let at_s : (r c : ℕ) → at s r c < 256 = λ r c. small_at s h (r + 4 * c) in
+    let col : (c : ℕ) → Small (column s c) = λ c. (at_s 0 c, (at_s 1 c, (at_s 2 c, (at_s 3 c, tt)))) in
     let row : (p q r t c : ℕ) → product p q r t (column s c) < 256 = λ p q r t c. small_product p q r t (column s c) (col c) in
     let mixed : (c : ℕ) → Small (circulant 2 3 1 1 (column s c)) = λ c. (row 2 3 1 1 c, (row 1 2 3 1 c, (row 1 1 2 3 c, (row 3 1 1 2 c, tt)))) in
     small_state _ (λ r c. small_at (circulant 2 3 1 1 (column s c)) (mixed c) r)
 
 mixed_undone : (s : List ℕ) → length s ≡ 16 → Small s → inv_mix_columns (mix_columns s) ≡ s
 mixed_undone s l h =
-    let at-s : (r c : ℕ) → at s r c < 256 = λ r c. small_at s h (r + 4 * c) in
-    (λ j. state (λ r c. slice_index (unmixed (at s 0 c) (at s 1 c) (at s 2 c) (at s 3 c) (at-s 0 c) (at-s 1 c) (at-s 2 c) (at-s 3 c) j) r))
+    let at_s : (r c : ℕ) → at s r c < 256 = λ r c. small_at s h (r + 4 * c) in
+    (λ j. state (λ r c. slice_index (unmixed (at s 0 c) (at s 1 c) (at s 2 c) (at s 3 c) (at_s 0 c) (at_s 1 c) (at_s 2 c) (at_s 3 c) j) r))
     ∙ spread s l
 
 -- a round

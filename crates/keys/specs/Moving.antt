@@ -48,7 +48,7 @@ abbrev pub move_refusal : MoveFault → MoveRefusal
 move_refusal PastCount = record { number = 13; given = λ s i. count s ≤ i }
 
 -- a refused move to i leaves the source and the buffer as they were
-pub record Kept (f : MoveFault) (s : Stack) (i : ℕ) (self-same out-same : Type 0) : Type 0 where
+pub record Kept (f : MoveFault) (s : Stack) (i : ℕ) (self_same out_same : Type 0) : Type 0 where
   pub past : (move_refusal f).given s i
-  pub self_is : self-same
-  pub out_is : out-same
+  pub self_is : self_same
+  pub out_is : out_same
