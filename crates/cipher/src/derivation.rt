@@ -1,11 +1,11 @@
 // New keys, made by enciphering blocks under a key (RFC 8645).
-ghost use Rattle.std.specs.Prelude.{◌≡◌, ℕ, ◌+◌, ◌-◌, ◌*◌, ◌/◌, ◌<◌, ◌≤◌, List, ◌++◌, length, take, drop, replicate};
+ghost use Rattle.std.specs.Prelude.{◌≡◌, ℕ, ◌+◌, ◌*◌, ◌<◌, ◌≤◌, List, length, take};
 ghost use Rattle.std.specs.List.{range_with_len};
 ghost use Rattle.cipher.specs.Bytes.{number};
 ghost use Rattle.cipher.specs.Derivation.{parts, made, marked, renewed, derived, numbered_key, master_key};
 ghost use Rattle.cipher.specs.KeyBlocks.{block as block_of};
 
-use crate::{BlockBuffer, BlockCipher, KeyBuffer};
+use crate::{BlockBuffer, BlockCipher, Key};
 
 // The blocks that are enciphered, one after the other, to make a key.
 #[derive(Clone, Copy)]
@@ -24,12 +24,12 @@ pub(crate) enum KeyBlocks {
 fn write_number(block: &mut [u8], t: u64)
     ensures { block.new ≡ number (length block.old) t }
 {
-    let n = block.len();
     let mut rest = t;
-    for i in 0..n {
-        block[n - 1 - i] = (rest % 256) as u8;
+    for byte in block.iter_mut() {
+        *byte = (rest % 256) as u8;
         rest /= 256;
     }
+    block.reverse();
 }
 
 // Writes `first` and the bytes that follow it.
@@ -37,8 +37,10 @@ fn write_ascending(block: &mut [u8], first: u8)
     requires { first + length block.old ≤ 256 }
     ensures { block.new ≡ range_with_len first (length block.old) }
 {
-    for j in 0..block.len() {
-        block[j] = first + j as u8;
+    let mut next = first;
+    for byte in block.iter_mut() {
+        *byte = next;
+        next = next.wrapping_add(1);
     }
 }
 
@@ -82,35 +84,32 @@ fn enciphered<C: BlockCipher>(cipher: &C, blocks: KeyBlocks, j: usize) -> BlockB
     block
 }
 
-// E under the key of the blocks, as many as make a key, joined; zeros follow a shorter key.
-fn make<C: BlockCipher>(key: &KeyBuffer, blocks: KeyBlocks) -> KeyBuffer
-    ensures value { take C.BlockCipher.model.key result ≡ made C.BlockCipher.model (take C.BlockCipher.model.key key.now) (block_of C.BlockCipher.model.block blocks) }
-    ensures rest { drop C.BlockCipher.model.key result ≡ replicate (32 - C.BlockCipher.model.key) 0 }
+// E under the key of the blocks, as many as make a key, joined.
+fn make<C: BlockCipher>(key: &Key<C>, blocks: KeyBlocks) -> Key<C>
+    ensures { result ≡ made C.BlockCipher.model key.now (block_of C.BlockCipher.model.block blocks) }
 {
-    let cipher = C::schedule(key);
+    let cipher = key.schedule();
     let n = C::block_len();
     let mut out = [0; 32];
     for j in 0..C::key_len() / n {
         let block = enciphered(&cipher, blocks, j);
         out[j * n..j * n + n].copy_from_slice(&block[0..n]);
     }
-    out
+    Key::new(&out)
 }
 
 // The key renewed once (ACPKM).
-pub fn renew<C: BlockCipher>(key: &KeyBuffer) -> KeyBuffer
-    ensures value { take C.BlockCipher.model.key result ≡ renewed C.BlockCipher.model (take C.BlockCipher.model.key key.now) }
-    ensures rest { drop C.BlockCipher.model.key result ≡ replicate (32 - C.BlockCipher.model.key) 0 }
+pub fn renew<C: BlockCipher>(key: &Key<C>) -> Key<C>
+    ensures { result ≡ renewed C.BlockCipher.model key.now }
 {
-    make::<C>(key, KeyBlocks::Constants)
+    make(key, KeyBlocks::Constants)
 }
 
 // The key that the blocks numbered from `first` on make.
-pub fn derive<C: BlockCipher>(key: &KeyBuffer, first: u32) -> KeyBuffer
-    ensures value { take C.BlockCipher.model.key result ≡ derived C.BlockCipher.model (take C.BlockCipher.model.key key.now) first }
-    ensures rest { drop C.BlockCipher.model.key result ≡ replicate (32 - C.BlockCipher.model.key) 0 }
+pub fn derive<C: BlockCipher>(key: &Key<C>, first: u32) -> Key<C>
+    ensures { result ≡ derived C.BlockCipher.model key.now first }
 {
-    make::<C>(key, KeyBlocks::Numbers(first))
+    make(key, KeyBlocks::Numbers(first))
 }
 
 // How many blocks make a key.
@@ -121,17 +120,15 @@ fn key_parts<C: BlockCipher>() -> u8
 }
 
 // The key of that number: it is made of the numbers that belong to it.
-pub fn derive_numbered<C: BlockCipher>(key: &KeyBuffer, number: u32) -> KeyBuffer
-    ensures value { take C.BlockCipher.model.key result ≡ numbered_key C.BlockCipher.model (take C.BlockCipher.model.key key.now) number }
-    ensures rest { drop C.BlockCipher.model.key result ≡ replicate (32 - C.BlockCipher.model.key) 0 }
+pub fn derive_numbered<C: BlockCipher>(key: &Key<C>, number: u32) -> Key<C>
+    ensures { result ≡ numbered_key C.BlockCipher.model key.now number }
 {
-    make::<C>(key, KeyBlocks::Run(number, key_parts::<C>()))
+    make(key, KeyBlocks::Run(number, key_parts::<C>()))
 }
 
 // The key of that number under a master key (ACPKM-Master).
-pub fn derive_from_master<C: BlockCipher>(key: &KeyBuffer, number: u32) -> KeyBuffer
-    ensures value { take C.BlockCipher.model.key result ≡ master_key C.BlockCipher.model (take C.BlockCipher.model.key key.now) number }
-    ensures rest { drop C.BlockCipher.model.key result ≡ replicate (32 - C.BlockCipher.model.key) 0 }
+pub fn derive_from_master<C: BlockCipher>(key: &Key<C>, number: u32) -> Key<C>
+    ensures { result ≡ master_key C.BlockCipher.model key.now number }
 {
-    make::<C>(key, KeyBlocks::MarkedRun(number, key_parts::<C>()))
+    make(key, KeyBlocks::MarkedRun(number, key_parts::<C>()))
 }

@@ -3,6 +3,8 @@
 
 mod block_cipher;
 mod derivation;
+mod key;
 
 pub use block_cipher::{BlockBuffer, BlockCipher, KeyBuffer};
 pub use derivation::{derive, derive_from_master, derive_numbered, renew};
+pub use key::Key;

@@ -1,16 +1,15 @@
-use Rattle.std.proofs.Common.{◌≡◌, ℕ, ◌+◌, ◌-◌, ◌*◌, ◌/◌, ◌≤◌, List, ◌++◌, length, take, drop, replicate, ap, ◌∙◌, arith}
+use Rattle.std.proofs.Common.{◌≡◌, ℕ, ◌+◌, ◌-◌, ◌*◌, ◌/◌, ◌≤◌, List, length, take, sym, ap, ◌∙◌, arith}
 use Rattle.std.specs.List.{range_with_len, flat_map}
 use Rattle.cipher.specs.Derivation.{parts, made}
 use Rattle.cipher.specs.KeyBlocks.{block}
-use Rattle.std.proofs.lemmas.List.{length-take, length-drop, length-append, length-replicate, take_at, drop_at}
+use Rattle.std.proofs.lemmas.List.{length-take, length-drop}
 use Rattle.cipher.proofs.Joining.{joined_step}
-use Rattle.cipher.proofs.Sizes.{told_within, parts_all, key_within}
+use Rattle.cipher.proofs.Sizes.{told_within, parts_all}
 use Rattle.cipher.proofs.derivation.make.Goals as goal
 
 pub slice_bounds-out-end : goal.slice_bounds-out-end
 slice_bounds-out-end g c =
     let h = told_within g.C.BlockCipher.model g.met.C.BlockCipher.laws _ _ c.loop-j.j c.block_len-n.ensures c.key_len.ensures c.loop-j-test.true in
-    let l = c.loop-j.invariant.0 in
     omega arith
 
 pub loop-j-preserved : goal.loop-j-preserved
@@ -18,15 +17,14 @@ loop-j-preserved g c =
     let m = g.C.BlockCipher.model in
     let n = c.block_len-n.result in
     let j = c.loop-j.j in
-    let key = take m.key c.args.key.now in
     let part = c.copy_from_slice.new.self in
     let h : j * n + n ≤ 32 = told_within m g.met.C.BlockCipher.laws _ _ j c.block_len-n.ensures c.key_len.ensures c.loop-j-test.true in
     let width : n - 0 ≡ m.block = omega (arith, c.block_len-n.ensures) in
-    let long : length part ≡ n = c.copy_from_slice.auto.self ∙ simp (length-take, length-drop) (omega (arith, c.loop-j.invariant.0)) in
-    let is : part ≡ m.enc key (block m.block c.args.blocks j) =
+    let long : length part ≡ n = c.copy_from_slice.auto.self ∙ simp (length-take, length-drop) (omega arith) in
+    let is : part ≡ m.enc c.args.key.now (block m.block c.args.blocks j) =
     c.copy_from_slice.ensures.after ∙ ap (λ k. take k c.enciphered-block.result) width ∙ c.enciphered-block.ensures
     ∙ ap (λ k. m.enc k (block m.block c.args.blocks j)) c.schedule-cipher.ensures in
-    joined_step (λ i. m.enc key (block m.block c.args.blocks i)) n j c.loop-j.out part h c.loop-j.invariant.0 long is c.loop-j.invariant.1
+    joined_step (λ i. m.enc c.args.key.now (block m.block c.args.blocks i)) n j c.loop-j.out part (omega arith) long is c.loop-j.invariant
 
 pub returns : goal.returns
 unfolding made
@@ -35,15 +33,6 @@ returns g c =
     let n = c.block_len-n.ensures in
     let told : c.loop-j.j ≡ c.key_len.result / c.block_len-n.result = omega arith in
     let j : c.loop-j.j ≡ parts m = told ∙ (λ i. c.key_len.ensures i / n i) in
-    let f : ℕ → List ℕ = λ i. m.enc (take m.key c.args.key.now) (block m.block c.args.blocks i) in
-    let x : List ℕ = flat_map f (range_with_len 0 (parts m)) in
-    let zeros : List ℕ = replicate (32 - m.key) 0 in
-    let all = parts_all m g.met.C.BlockCipher.laws in
-    let few = key_within m g.met.C.BlockCipher.laws in
-    let whole : c.loop-j.out ≡ x ++ zeros =
-    c.loop-j.invariant.1 ∙ (λ i. flat_map f (range_with_len 0 (j i)) ++ replicate (32 - j i * n i) 0) ∙ ap (λ k. x ++ replicate (32 - k) 0) all in
-    let long : length x ≡ m.key = omega (arith, c.loop-j.invariant.0, ap length whole, length-append x zeros, length-replicate {A = ℕ} (32 - m.key) 0) in
-    record {
-      value = ap (take m.key) whole ∙ take_at x zeros m.key long;
-      rest = ap (drop m.key) whole ∙ drop_at x zeros m.key long;
-    }
+    let f : ℕ → List ℕ = λ i. m.enc c.args.key.now (block m.block c.args.blocks i) in
+    let whole : c.loop-j.j * c.block_len-n.result ≡ m.key = (λ i. j i * n i) ∙ parts_all m g.met.C.BlockCipher.laws in
+    c.new.ensures ∙ ap (λ k. take k c.loop-j.out) (sym whole) ∙ c.loop-j.invariant ∙ ap (λ k. flat_map f (range_with_len 0 k)) j

@@ -1,6 +1,6 @@
-use Rattle.std.proofs.Common.{◌≡◌, ◌-◌, ◌++◌, drop}
+use Rattle.std.proofs.Common.{◌≡◌, ◌-◌, ◌++◌, length, take, reverse}
 use Rattle.cipher.specs.Bytes.{number}
 use Rattle.cipher.proofs.derivation.write_number.Given as goal
 
-abbrev pub invariant-loop-i : goal.invariant-loop-i
-invariant-loop-i l = number l.n l.t ≡ number (l.n - l.i) l.rest ++ drop (l.n - l.i) l.block
+abbrev pub invariant-loop-byte : goal.invariant-loop-byte
+invariant-loop-byte l = number (length l.fn.block) l.t ≡ number (length l.fn.block - l.byte-index) l.rest ++ reverse (take l.byte-index l.block)

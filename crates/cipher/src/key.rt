@@ -1,0 +1,70 @@
+// The key of a cipher.
+ghost use Rattle.std.specs.Prelude.{◌≡◌, ◌-◌, ◌++◌, take, drop, replicate};
+
+use crate::{BlockCipher, KeyBuffer};
+use std::marker::{Model, PhantomData};
+
+// The key of a cipher, at the front of room for any; zeros stand behind a shorter one.
+#[derive(Drop)]
+pub struct Key<C: BlockCipher> {
+    bytes: KeyBuffer,
+    cipher: PhantomData<C>,
+}
+
+// Clauses see the bytes of the key.
+impl<C: BlockCipher> Model for Key<C> {
+    ghost use Rattle.std.specs.Prelude.{◌≡◌, ℕ, ◌-◌, List, take, drop, replicate};
+
+    ghost Value = { List ℕ };
+
+    ghost view = { λ k. take C.BlockCipher.model.key k.bytes };
+
+    ghost invariant = { λ k. drop C.BlockCipher.model.key k.bytes ≡ replicate (32 - C.BlockCipher.model.key) 0 };
+}
+
+impl<C: BlockCipher> Key<C> {
+    // The key in the first bytes of a buffer.
+    pub fn new(buffer: &KeyBuffer) -> Key<C>
+        ensures { result ≡ take C.BlockCipher.model.key buffer.now }
+    {
+        let k = C::key_len();
+        let mut bytes = *buffer;
+        bytes[k..].fill(0);
+        Key {
+            bytes,
+            cipher: PhantomData,
+        }
+    }
+
+    // The same key. It is not `Copy`: the borrow checker takes no copy of a type whose parameter has a bound.
+    pub fn copy(&self) -> Key<C>
+        ensures { result ≡ self.now }
+    {
+        Key {
+            bytes: self.bytes,
+            cipher: PhantomData,
+        }
+    }
+
+    // The cipher, ready to work under the key.
+    pub fn schedule(&self) -> C
+        ensures { C.BlockCipher.keyed result ≡ self.now }
+    {
+        C::schedule(&self.bytes)
+    }
+
+    // The bytes of the key, and zeros behind them.
+    pub fn buffer(&self) -> KeyBuffer
+        ensures { result ≡ self.now ++ replicate (32 - C.BlockCipher.model.key) 0 }
+    {
+        self.bytes
+    }
+
+    // Writes the key to the first bytes of a buffer; the others stay.
+    pub fn write(&self, buffer: &mut KeyBuffer)
+        ensures { buffer.new ≡ self.now ++ drop C.BlockCipher.model.key buffer.old }
+    {
+        let k = C::key_len();
+        buffer[0..k].copy_from_slice(&self.bytes[0..k]);
+    }
+}
