@@ -1,7 +1,7 @@
 ghost use Rattle.rules.specs.Levels.{branch};
 
 use crate::Rule;
-use cipher::{BlockCipher, KeyBuffer, derive_numbered};
+use cipher::{BlockCipher, Key, derive_numbered};
 
 const HIGHEST_BRANCH: u32 = 63;
 
@@ -34,11 +34,11 @@ impl<C: BlockCipher> Rule<C> for Branch {
         0
     }
 
-    fn step(&self, inner: &KeyBuffer) -> KeyBuffer {
-        *inner
+    fn step(&self, inner: &Key<C>) -> Key<C> {
+        inner.copy()
     }
 
-    fn key(&self, inner: &KeyBuffer, _remainder: u32) -> KeyBuffer {
-        derive_numbered::<C>(inner, self.number)
+    fn key(&self, inner: &Key<C>, _remainder: u32) -> Key<C> {
+        derive_numbered(inner, self.number)
     }
 }

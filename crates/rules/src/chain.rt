@@ -2,7 +2,7 @@ ghost use Rattle.rules.specs.Levels.{chain};
 
 use crate::Rule;
 use crate::ranges::fits;
-use cipher::{BlockCipher, KeyBuffer, renew};
+use cipher::{BlockCipher, Key, renew};
 
 // The key below, and then each key renewed: ACPKM.
 #[derive(Clone, Copy)]
@@ -33,11 +33,11 @@ impl<C: BlockCipher> Rule<C> for Chain {
         remainder
     }
 
-    fn step(&self, inner: &KeyBuffer) -> KeyBuffer {
-        renew::<C>(inner)
+    fn step(&self, inner: &Key<C>) -> Key<C> {
+        renew(inner)
     }
 
-    fn key(&self, inner: &KeyBuffer, _remainder: u32) -> KeyBuffer {
-        *inner
+    fn key(&self, inner: &Key<C>, _remainder: u32) -> Key<C> {
+        inner.copy()
     }
 }

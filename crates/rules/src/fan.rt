@@ -2,7 +2,7 @@ ghost use Rattle.rules.specs.Levels.{fan};
 
 use crate::Rule;
 use crate::ranges::fits;
-use cipher::{BlockCipher, KeyBuffer, derive_numbered};
+use cipher::{BlockCipher, Key, derive_numbered};
 
 // Keys by their numbers: the parallel construction.
 #[derive(Clone, Copy)]
@@ -33,11 +33,11 @@ impl<C: BlockCipher> Rule<C> for Fan {
         0
     }
 
-    fn step(&self, inner: &KeyBuffer) -> KeyBuffer {
-        *inner
+    fn step(&self, inner: &Key<C>) -> Key<C> {
+        inner.copy()
     }
 
-    fn key(&self, inner: &KeyBuffer, remainder: u32) -> KeyBuffer {
-        derive_numbered::<C>(inner, remainder)
+    fn key(&self, inner: &Key<C>, remainder: u32) -> Key<C> {
+        derive_numbered(inner, remainder)
     }
 }

@@ -2,7 +2,7 @@ ghost use Rattle.rules.specs.Levels.{master};
 
 use crate::Rule;
 use crate::ranges::fits;
-use cipher::{BlockCipher, KeyBuffer, derive_from_master, renew};
+use cipher::{BlockCipher, Key, derive_from_master, renew};
 
 // Keys by their numbers under an inner key that is renewed after each `period` of them: ACPKM-Master.
 #[derive(Clone, Copy)]
@@ -30,16 +30,16 @@ impl<C: BlockCipher> Rule<C> for Master {
         false
     }
 
-    // A period of 0 is out of range, and no level stands by it.
+    // A period of 0 is out of range: no level stands by it.
     fn stage(&self, remainder: u32) -> u32 {
-        remainder / self.period.max(1)
+        remainder.checked_div(self.period).unwrap_or(0)
     }
 
-    fn step(&self, inner: &KeyBuffer) -> KeyBuffer {
-        renew::<C>(inner)
+    fn step(&self, inner: &Key<C>) -> Key<C> {
+        renew(inner)
     }
 
-    fn key(&self, inner: &KeyBuffer, remainder: u32) -> KeyBuffer {
-        derive_from_master::<C>(inner, remainder)
+    fn key(&self, inner: &Key<C>, remainder: u32) -> Key<C> {
+        derive_from_master(inner, remainder)
     }
 }

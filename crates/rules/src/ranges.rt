@@ -8,5 +8,5 @@ const HIGHEST: u32 = 4096;
 pub fn fits(x: u32) -> bool
     ensures { result ≡ in_range x }
 {
-    1 <= x && x <= HIGHEST
+    (1..=HIGHEST).contains(&x)
 }

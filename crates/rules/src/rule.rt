@@ -1,9 +1,9 @@
 // What a level asks of its kind.
-ghost use Rattle.std.specs.Prelude.{◌≡◌, true, take};
+ghost use Rattle.std.specs.Prelude.{◌≡◌};
 ghost use Rattle.rules.specs.Levels.{Level, quota as quota_of, renews as renews_below, renews_own, ranged};
 ghost use Rattle.rules.specs.InnerKeys.{stage as stage_of, stepped, given};
 
-use cipher::{BlockCipher, KeyBuffer};
+use cipher::{BlockCipher, Key};
 
 // How a level makes its keys. An inner key begins as the key below and is replaced step by step; a key
 // given out is made from it.
@@ -29,13 +29,13 @@ pub trait Rule<C: BlockCipher>: Sized + Drop {
 
     // How often the inner key has been replaced when the key of a remainder is made.
     fn stage(&self, remainder: u32) -> u32
-        ensures { ranged (kind self.now) ≡ true → result ≡ stage_of (kind self.now) remainder };
+        ensures { result ≡ stage_of (kind self.now) remainder };
 
     // What replaces an inner key.
-    fn step(&self, inner: &KeyBuffer) -> KeyBuffer
-        ensures { take C.BlockCipher.model.key result ≡ stepped C.BlockCipher.model (kind self.now) (take C.BlockCipher.model.key inner.now) };
+    fn step(&self, inner: &Key<C>) -> Key<C>
+        ensures { result ≡ stepped C.BlockCipher.model (kind self.now) inner.now };
 
     // The key of a remainder, from its inner key.
-    fn key(&self, inner: &KeyBuffer, remainder: u32) -> KeyBuffer
-        ensures { take C.BlockCipher.model.key result ≡ given C.BlockCipher.model (kind self.now) (take C.BlockCipher.model.key inner.now) remainder };
+    fn key(&self, inner: &Key<C>, remainder: u32) -> Key<C>
+        ensures { result ≡ given C.BlockCipher.model (kind self.now) inner.now remainder };
 }

@@ -2,7 +2,7 @@ ghost use Rattle.rules.specs.Levels.{serial};
 
 use crate::Rule;
 use crate::ranges::fits;
-use cipher::{BlockCipher, KeyBuffer, derive_numbered};
+use cipher::{BlockCipher, Key, derive_numbered};
 
 // Keys by inner keys, each of which is made from the one before: the serial construction.
 #[derive(Clone, Copy)]
@@ -33,11 +33,11 @@ impl<C: BlockCipher> Rule<C> for Serial {
         remainder
     }
 
-    fn step(&self, inner: &KeyBuffer) -> KeyBuffer {
-        derive_numbered::<C>(inner, 1)
+    fn step(&self, inner: &Key<C>) -> Key<C> {
+        derive_numbered(inner, 1)
     }
 
-    fn key(&self, inner: &KeyBuffer, _remainder: u32) -> KeyBuffer {
-        derive_numbered::<C>(inner, 0)
+    fn key(&self, inner: &Key<C>, _remainder: u32) -> Key<C> {
+        derive_numbered(inner, 0)
     }
 }
