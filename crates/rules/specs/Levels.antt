@@ -1,41 +1,31 @@
 -- The five kinds of level. A level stands on a source of keys, and makes some keys of each key below. Assumes nothing.
 use Rattle.std.specs.Prelude.{ℕ, Bool, true, false, ◌&&◌, nat_le}
-
-pub data Level : Type 0 where
-  -- one key, by a fixed number
-  branch : (number : ℕ) → Level
-  -- keys by their numbers: the parallel construction
-  fan : (quota : ℕ) → Level
-  -- keys by inner keys, each of which is made from the one before: the serial construction
-  serial : (quota : ℕ) → Level
-  -- the key below, and then each key renewed: ACPKM
-  chain : (quota : ℕ) → Level
-  -- keys by their numbers under an inner key that is renewed after so many of them: ACPKM-Master
-  master : (quota period : ℕ) → Level
+use Rattle.rules.specs.declared.kind.Kind.{Kind}
+use Rattle.rules.specs.declared.kind.Kind.TheVariants.{Branch, Fan, Serial, Chain, Master}
 
 -- how many keys it makes of one key below
-abbrev pub quota : Level → ℕ
-quota (branch a) = 1
-quota (fan q) = q
-quota (serial q) = q
-quota (chain q) = q
-quota (master q t) = q
+abbrev pub quota : Kind → ℕ
+quota (Branch a) = 1
+quota (Fan q) = q
+quota (Serial q) = q
+quota (Chain q) = q
+quota (Master q t) = q
 
 -- whether it enciphers the renewal constants under the keys below
-abbrev pub renews : Level → Bool
-renews (branch a) = false
-renews (fan q) = false
-renews (serial q) = false
-renews (chain q) = true
-renews (master q t) = true
+abbrev pub renews : Kind → Bool
+renews (Branch a) = false
+renews (Fan q) = false
+renews (Serial q) = false
+renews (Chain q) = true
+renews (Master q t) = true
 
 -- whether it enciphers the renewal constants under the keys that it gives out
-abbrev pub renews_own : Level → Bool
-renews_own (branch a) = false
-renews_own (fan q) = false
-renews_own (serial q) = false
-renews_own (chain q) = true
-renews_own (master q t) = false
+abbrev pub renews_own : Kind → Bool
+renews_own (Branch a) = false
+renews_own (Fan q) = false
+renews_own (Serial q) = false
+renews_own (Chain q) = true
+renews_own (Master q t) = false
 
 -- the highest number of a branch
 abbrev pub highest_branch : ℕ
@@ -46,9 +36,9 @@ abbrev pub in_range : ℕ → Bool
 in_range x = nat_le 1 x && nat_le x 4096
 
 -- its numbers are in range
-abbrev pub ranged : Level → Bool
-ranged (branch a) = nat_le a highest_branch
-ranged (fan q) = in_range q
-ranged (serial q) = in_range q
-ranged (chain q) = in_range q
-ranged (master q t) = in_range q && in_range t
+abbrev pub ranged : Kind → Bool
+ranged (Branch a) = nat_le a highest_branch
+ranged (Fan q) = in_range q
+ranged (Serial q) = in_range q
+ranged (Chain q) = in_range q
+ranged (Master q t) = in_range q && in_range t
