@@ -7,7 +7,8 @@ ghost use Rattle.cipher.specs.KeyBlocks.{block as block_of};
 
 use crate::{BlockBuffer, BlockCipher, Key};
 
-// The blocks that are enciphered, one after the other, to make a key.
+// The blocks that are enciphered, one after the other, to make a key. Closures that make the blocks would each repeat
+// their blocks' contract where they are written.
 #[derive(Clone, Copy)]
 pub(crate) enum KeyBlocks {
     // The bytes 80, 81 .. 9F, cut into blocks.
@@ -91,6 +92,7 @@ fn make<C: BlockCipher>(key: &Key<C>, blocks: KeyBlocks) -> Key<C>
     let cipher = key.schedule();
     let n = C::block_len();
     let mut out = [0; 32];
+    // By its number j: of a slice cut by `chunks_exact_mut` only the length is known after the loop.
     for j in 0..C::key_len() / n {
         let block = enciphered(&cipher, blocks, j);
         out[j * n..j * n + n].copy_from_slice(&block[0..n]);
