@@ -7,11 +7,6 @@ use Rattle.cipher.proofs.Joining.{joined_step}
 use Rattle.cipher.proofs.Sizes.{told_within, parts_all}
 use Rattle.cipher.proofs.derivation.make.Goals as goal
 
-pub slice_bounds-out-end : goal.slice_bounds-out-end
-slice_bounds-out-end g c =
-    let h = told_within g.C.BlockCipher.model g.met.C.BlockCipher.laws _ _ c.loop-j.j c.block_len-n.ensures c.key_len.ensures c.loop-j-test.true in
-    omega arith
-
 pub loop-j-preserved : goal.loop-j-preserved
 loop-j-preserved g c =
     let m = g.C.BlockCipher.model in

@@ -1,10 +1,7 @@
-use Rattle.std.proofs.Common.{length, sym, ap, ◌∙◌, arith}
+use Rattle.std.proofs.Common.{length, sym, ap, ◌∙◌}
 use Rattle.cipher.specs.Derivation.{constant}
 use Rattle.cipher.specs.KeyBlocks.{block}
 use Rattle.cipher.proofs.derivation.KeyBlocks.write.Goals as goal
-
-pub overflow_add-t : goal.overflow_add-t
-overflow_add-t c = let small = c.requires.1 in omega arith
 
 pub returns-in-Constants : goal.returns-in-Constants
 unfolding constant
