@@ -19,14 +19,12 @@ pub key_within : (i m w n : ℕ) → i < m → m * w ≤ n → i * w + w ≤ n
 key_within i m w n l h = let x : suc i * w ≤ m * w = mul-le-mul_right w l in omega (arith, suc-mul i w)
 
 -- a ring whose tally is as it was is as it was
-pub ring_same : {D : Type 0} {B : Ghosts D} (r : Ring D B) (t : Tally) (h : t.count * r.width ≤ length r.keys.now) (n : r.width ≤ 32) → t ≡ r.tally
-    → ◌≡◌ {A = Ring D B} (record { keys = r.keys; width = r.width; cipher = r.cipher; tally = t; held = h; narrow = n }) r
-ring_same r t h n e =
+pub ring_same : {D : Type 0} {B : Ghosts D} (r : Ring D B) (t : Tally) (h : t.count * B.model.key ≤ length r.keys.now) → t ≡ r.tally
+    → ◌≡◌ {A = Ring D B} (record { keys = r.keys; cipher = r.cipher; tally = t; held = h }) r
+ring_same {B = B} r t h e =
     λ i. record {
       keys = r.keys;
-      width = r.width;
       cipher = r.cipher;
       tally = e i;
-      held = is_prop→PathP (λ j. (e j).count * r.width ≤ length r.keys.now) (λ j. le_prop) h r.held i;
-      narrow = le_prop n r.narrow i;
+      held = is_prop→PathP (λ j. (e j).count * B.model.key ≤ length r.keys.now) (λ j. le_prop) h r.held i;
     }

@@ -13,22 +13,17 @@ const MOST_KEYS: usize = 256;
 #[derive(Drop)]
 pub struct Ring<'a, C: BlockCipher> {
     keys: &'a [u8],
-    // The bytes of a key.
-    width: usize,
     cipher: PhantomData<C>,
     tally: Tally,
-    ghost held: { tally.count * width ≤ length keys.now },
-    ghost narrow: { width ≤ 32 },
+    ghost held: { tally.count * C.BlockCipher.model.key ≤ length keys.now },
 }
 
 impl<'a, C: BlockCipher> KeySource<C> for Ring<'a, C> {
-    ghost stack = { λ s. founded s.tally.count (λ i. take s.width (drop (i * s.width) s.keys.now)) };
+    ghost stack = { λ s. founded s.tally.count (λ i. take C.BlockCipher.model.key (drop (i * C.BlockCipher.model.key) s.keys.now)) };
 
     ghost stands = { λ s. s.tally.position };
 
     ghost ledgers = { λ s _. s.tally.given };
-
-    ghost lawful = { λ s. s.width ≡ C.BlockCipher.model.key };
 
     fn count(&self) -> u32 {
         self.tally.count
@@ -60,7 +55,7 @@ impl<'a, C: BlockCipher> KeySource<C> for Ring<'a, C> {
 
     fn move_to(&mut self, number: u32, key: &mut KeyBuffer) -> Result<(), MoveFault> {
         self.tally.visit(number)?;
-        let n = self.width;
+        let n = C::key_len();
         let at = number as usize * n;
         key[0..n].copy_from_slice(&self.keys[at..at + n]);
         Ok(())
@@ -72,8 +67,7 @@ pub trait FromKeys<'a, C: BlockCipher>: KeySource<C> {
     // Reads the keys where they stand; it has none where the buffer does not hold 1 to 256 whole keys.
     fn from_keys(buffer: &'a [u8]) -> Self
         ensures stack { Self.KeySource.stack result ≡ ringed C.BlockCipher.model.key buffer.now }
-        ensures stands { Self.KeySource.stands result ≡ None }
-        ensures lawful { Self.KeySource.lawful result };
+        ensures stands { Self.KeySource.stands result ≡ None };
 }
 
 // How many keys of `width` bytes make up `len` bytes: none unless they are 1 to 256 whole keys.
@@ -93,7 +87,6 @@ impl<'a, C: BlockCipher> FromKeys<'a, C> for Ring<'a, C> {
         let count = whole_keys(buffer.len(), width);
         Ring {
             keys: buffer,
-            width,
             cipher: PhantomData,
             tally: Tally::new(count),
         }

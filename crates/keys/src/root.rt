@@ -34,8 +34,6 @@ impl<C: BlockCipher> KeySource<C> for Root<C> {
 
     ghost ledgers = { λ s _. s.tally.given };
 
-    ghost lawful = { λ s. Unit {0} };
-
     fn count(&self) -> u32 {
         self.tally.count
     }
@@ -78,8 +76,7 @@ pub trait FromKey<C: BlockCipher>: KeySource<C> {
     fn from_key(buffer: &mut [u8]) -> Self
         ensures zeros { buffer.new ≡ replicate (length buffer.old) 0 }
         ensures stack { Self.KeySource.stack result ≡ rooted C.BlockCipher.model.key buffer.old }
-        ensures stands { Self.KeySource.stands result ≡ None }
-        ensures lawful { Self.KeySource.lawful result };
+        ensures stands { Self.KeySource.stands result ≡ None };
 }
 
 impl<C: BlockCipher> FromKey<C> for Root<C> {

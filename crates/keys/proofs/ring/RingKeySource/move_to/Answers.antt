@@ -9,13 +9,14 @@ returns-in_err-visit g c =
     let p = err_from_is_err_and c.from_residual.result c.from_residual.ensures.1 in
     rw p.1 (record {
       stack = search rules;
-      lawful = λ e. e;
-      cases = λ _. record { past = search rules; self_is = search (rules, ring_same); out_is = search rules };
+      cases = record { past = search rules; self_is = search (rules, ring_same); out_is = search rules };
     })
 
 pub slice_bounds-copy_from_slice-end-2 : goal.slice_bounds-copy_from_slice-end-2
 slice_bounds-copy_from_slice-end-2 g c =
     let s = c.args.self.now in
     let i = c.args.number in
-    let h : i * s.width + s.width ≤ length s.keys.now = key_within i s.tally.count s.width _ c.in_ok-visit.ensures.cases.0 s.held in
+    let n = c.key_len-n.result in
+    let held : s.tally.count * n ≤ length s.keys.now = rw c.key_len-n.ensures s.held in
+    let h : i * n + n ≤ length s.keys.now = key_within i s.tally.count n _ c.in_ok-visit.ensures.cases.0 held in
     omega arith

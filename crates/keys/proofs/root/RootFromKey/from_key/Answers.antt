@@ -15,5 +15,4 @@ returns g c =
       zeros = search rules;
       stack = rooted_one k _ b _ c.new-2.ensures.count long (take_at part (drop (n - 0) (replicate 32 0)) k (ap length is ∙ long) ∙ is);
       stands = c.new-2.ensures.position;
-      lawful = tt;
     }
