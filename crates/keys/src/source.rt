@@ -4,7 +4,7 @@ ghost use Rattle.keys.specs.Stack.{Stack, count as count_of, quotas, levels as l
 ghost use Rattle.keys.specs.Sources.{Facts, told};
 ghost use Rattle.keys.specs.Moving.{Moved, Kept};
 
-use crate::{MoveFault, Note};
+use crate::{MoveFault, Refusal};
 use cipher::{BlockCipher, KeyBuffer};
 
 // A source of keys for a cipher, numbered from 0. It stands at a key's number, or nowhere before its first
@@ -46,8 +46,8 @@ pub trait KeySource<C: BlockCipher>: Sized + Drop {
     fn renews_own_keys(&self) -> bool
         ensures { result ≡ renews_keys (stack self.now) };
 
-    // Its own level with the number 0, or why its making was refused.
-    fn note(&self) -> Note
+    // Its own level, or why its making was refused.
+    fn note(&self) -> Result<u32, Refusal>
         ensures { result ≡ note_of (stack self.now) };
 
     // Moves to a key's number, and writes the key.
