@@ -6,7 +6,7 @@ ghost use Rattle.key_requests.specs.Keys.{asked, refusal_text as refusal_text_of
 
 use crate::request::KeyRequest;
 use cipher::{BlockCipher, KeyBuffer};
-use keys::Note;
+use keys::Refusal;
 use stacks::{KeyRefusal, key_of};
 use std::alloc::{AllocError, Global};
 use text::to_hex;
@@ -19,7 +19,8 @@ fn refusal_text(heap: Global, refusal: KeyRefusal) -> Result<String, AllocError>
     ensures { IfOk result (λ s. string_bytes s ≡ refusal_text_of (refusal_of refusal)) }
 {
     match refusal {
-        KeyRefusal::Stack(Note { level, number }) => {
+        KeyRefusal::Stack(Refusal { level, fault }) => {
+            let number = fault.number();
             format!(in heap; "refused {STACK_REFUSED} {level} {number}")
         }
         KeyRefusal::Move(fault) => {

@@ -2,12 +2,12 @@
 -- Assumes nothing.
 use Rattle.std.specs.Prelude.{ℕ, ◌*◌, ◌/◌, ◌%◌, Bool, false, cond, ◌&&◌, List, [], ◌∷◌, length, take, drop, ◌==◌, nat_le, nat_lt}
 use Rattle.keys.specs.declared.refusals.MakingFault.TheVariants.{KeyLength}
-use Rattle.keys.specs.Refusals.{of_buffer, making_refusal, making_number, noted}
+use Rattle.keys.specs.Refusals.{of_buffer, making_refusal}
 use Rattle.keys.specs.Stack.{Stack, bottom, refused}
 
 -- refused for the length of the keys
 abbrev pub keyless : Stack
-keyless = refused (noted 0 (making_number KeyLength)) (1 ∷ [])
+keyless = refused (record { level = 0; fault = KeyLength }) (1 ∷ [])
 
 -- a bottom that is refused where the buffer does not hold its keys
 abbrev pub opened : Bool → Stack → Stack

@@ -1,9 +1,9 @@
 -- The refusals of a making: for each its number, and when it applies. Assumes nothing.
-use Rattle.std.specs.Prelude.{ℕ, ◌*◌, Bool, false, not, ◌&&◌, nat_le, nat_lt}
+use Rattle.std.specs.Prelude.{ℕ, ◌*◌, Bool, false, not, ◌&&◌, nat_le, nat_lt, Ok, Err, Result}
 use Rattle.rules.specs.Levels.{Level, quota, renews, ranged}
 use Rattle.keys.specs.declared.refusals.MakingFault.{MakingFault}
 use Rattle.keys.specs.declared.refusals.MakingFault.TheVariants.{KeyLength, OutOfRange, NotFresh, KeysRenewed, TooLarge}
-use Rattle.keys.specs.declared.refusals.Note.{Note}
+use Rattle.keys.specs.declared.refusals.Refusal.{Refusal}
 
 -- what is to be made
 pub data Attempt : Type 0 where
@@ -47,5 +47,12 @@ making_refusal TooLarge = record { number = 5; applies = is_too_large }
 abbrev pub making_number : MakingFault → ℕ
 making_number f = (making_refusal f).number
 
-abbrev pub noted : ℕ → ℕ → Note
-noted l k = record { level = l; number = k }
+-- a note is the level of a source that was made, or the refusal: its level
+abbrev pub note_level : Result ℕ Refusal → ℕ
+note_level (Ok l) = l
+note_level (Err r) = r.level
+
+-- the number of a note: 0 for a source that was made
+abbrev pub note_number : Result ℕ Refusal → ℕ
+note_number (Ok l) = 0
+note_number (Err r) = making_number r.fault

@@ -1,20 +1,19 @@
 -- A stack: a bottom source of keys, and levels on it, each of which makes more keys of each key below.
 -- Assumes nothing.
-use Rattle.std.specs.Prelude.{◌≡◌, ℕ, ◌*◌, ◌/◌, ◌%◌, ◌<◌, ◌≤◌, Bool, true, false, cond, List, [], ◌∷◌, length, Some, None, Option, ◌==◌}
+use Rattle.std.specs.Prelude.{◌≡◌, ℕ, ◌*◌, ◌/◌, ◌%◌, ◌<◌, ◌≤◌, Bool, true, false, cond, List, [], ◌∷◌, length, Some, None, Ok, Err, Option, Result, ◌==◌}
 use Rattle.std.specs.Option.{unwrap_or}
 use Rattle.cipher.specs.Model.{Model}
 use Rattle.rules.specs.Levels.{Level, quota, renews, renews_own, ranged}
 use Rattle.rules.specs.LevelKeys.{level_key}
-use Rattle.keys.specs.declared.refusals.Note.{Note}
-use Rattle.keys.specs.Refusals.{noted}
+use Rattle.keys.specs.declared.refusals.Refusal.{Refusal}
 
 pub data Stack : Type 0 where
   -- so many keys, these, and whether the renewal constants are enciphered under them too
   bottom : (count : ℕ) → (ℕ → List ℕ) → Bool → Stack
   -- a level on a stack
   on : Level → Stack → Stack
-  -- what a refused making leaves: the note that says why, and the levels' quotas, the top level's first
-  refused : Note → (quotas : List ℕ) → Stack
+  -- what a refused making leaves: why, and the levels' quotas, the top level's first
+  refused : Refusal → (quotas : List ℕ) → Stack
 
 -- how many keys it has
 abbrev pub count : Stack → ℕ
@@ -38,11 +37,11 @@ renews_keys (bottom m k w) = w
 renews_keys (on l s) = renews_own l
 renews_keys (refused x qs) = false
 
--- its own level with the number 0, or why its making was refused
-abbrev pub note : Stack → Note
-note (bottom m k w) = noted 0 0
-note (on l s) = noted (levels s) 0
-note (refused x qs) = x
+-- its own level, or why its making was refused
+abbrev pub note : Stack → Result ℕ Refusal
+note (bottom m k w) = Ok 0
+note (on l s) = Ok (levels s)
+note (refused x qs) = Err x
 
 -- key i
 abbrev pub key : Model → Stack → ℕ → List ℕ

@@ -1,15 +1,16 @@
 // Sources of keys.
 #![tactic(auto)]
 
+mod bottom;
+mod keys;
 mod refusals;
 mod ring;
 mod root;
 mod source;
-mod tally;
 mod walking;
 
-pub use refusals::{MakingFault, MoveFault, Note};
-pub use ring::{FromKeys, Ring};
-pub use root::{FromKey, Root};
+pub use refusals::{MakingFault, MoveFault, Refusal};
+pub use ring::Ring;
+pub use root::Root;
 pub use source::KeySource;
 pub use walking::walk;

@@ -1,101 +1,53 @@
 // A source of keys that stand in a lent buffer.
-ghost use Rattle.std.specs.Prelude.{◌≡◌, ◌*◌, ◌/◌, ◌<◌, ◌≤◌, length, take, drop, if◌then◌else◌, None};
-ghost use Rattle.keys.specs.Bottom.{founded, ringed, ring_fits};
+ghost use Rattle.std.specs.Prelude.{◌≡◌, ◌*◌, ◌/◌, ◌%◌, ◌≤◌, length, take, drop, None};
+ghost use Rattle.keys.specs.Bottom.{ringed};
 
-use crate::tally::Tally;
-use crate::{KeySource, MoveFault, Note};
-use cipher::{BlockCipher, KeyBuffer};
+use crate::KeySource;
+use crate::bottom::Bottom;
+use crate::keys::Keys;
+use cipher::BlockCipher;
 use std::marker::PhantomData;
 
 const MOST_KEYS: usize = 256;
 
-// A source of 1 to 256 keys, which stand in a lent buffer one after the other. The buffer is only read.
+// At most 256 keys, which stand in a lent buffer one after the other. The buffer is only read.
 #[derive(Drop)]
-pub struct Ring<'a, C: BlockCipher> {
-    keys: &'a [u8],
-    // The bytes of a key.
-    width: usize,
+pub struct LentKeys<'a, C: BlockCipher> {
+    bytes: &'a [u8],
     cipher: PhantomData<C>,
-    tally: Tally,
-    ghost held: { tally.count * width ≤ length keys.now },
-    ghost narrow: { width ≤ 32 },
+    ghost whole: { length bytes.now % C.BlockCipher.model.key ≡ 0 },
+    ghost few: { length bytes.now ≤ 256 * C.BlockCipher.model.key },
 }
 
-impl<'a, C: BlockCipher> KeySource<C> for Ring<'a, C> {
-    ghost stack = { λ s. founded s.tally.count (λ i. take s.width (drop (i * s.width) s.keys.now)) };
+impl<'a, C: BlockCipher> Keys<C> for LentKeys<'a, C> {
+    ghost count = { λ s. length s.bytes.now / C.BlockCipher.model.key };
 
-    ghost stands = { λ s. s.tally.position };
-
-    ghost ledgers = { λ s _. s.tally.given };
-
-    ghost lawful = { λ s. s.width ≡ C.BlockCipher.model.key };
+    ghost key = { λ s i. take C.BlockCipher.model.key (drop (i * C.BlockCipher.model.key) s.bytes.now) };
 
     fn count(&self) -> u32 {
-        self.tally.count
+        (self.bytes.len() / C::key_len()) as u32
     }
 
-    fn position(&self) -> Option<u32> {
-        self.tally.position
-    }
-
-    fn levels(&self) -> u32 {
-        1
-    }
-
-    fn quota(&self, level: u32) -> Option<u32> {
-        if level == 0 { Some(1) } else { None }
-    }
-
-    fn ledger(&self, level: u32) -> Option<u32> {
-        self.tally.ledger(level)
-    }
-
-    fn renews_own_keys(&self) -> bool {
-        false
-    }
-
-    fn note(&self) -> Note {
-        self.tally.note()
-    }
-
-    fn move_to(&mut self, number: u32, key: &mut KeyBuffer) -> Result<(), MoveFault> {
-        self.tally.visit(number)?;
-        let n = self.width;
-        let at = number as usize * n;
-        key[0..n].copy_from_slice(&self.keys[at..at + n]);
-        Ok(())
+    fn key(&self, number: u32) -> Option<&[u8]> {
+        let n = C::key_len();
+        self.bytes.chunks_exact(n).nth(number as usize)
     }
 }
 
-// A source made of lent keys.
-pub trait FromKeys<'a, C: BlockCipher>: KeySource<C> {
+// A source of keys that stand in a lent buffer.
+pub type Ring<'a, C> = Bottom<C, LentKeys<'a, C>>;
+
+impl<'a, C: BlockCipher> Ring<'a, C> {
     // Reads the keys where they stand; it has none where the buffer does not hold 1 to 256 whole keys.
-    fn from_keys(buffer: &'a [u8]) -> Self
-        ensures stack { Self.KeySource.stack result ≡ ringed C.BlockCipher.model.key buffer.now }
-        ensures stands { Self.KeySource.stands result ≡ None }
-        ensures lawful { Self.KeySource.lawful result };
-}
-
-// How many keys of `width` bytes make up `len` bytes: none unless they are 1 to 256 whole keys.
-fn whole_keys(len: usize, width: usize) -> u32
-    requires { (0 < width) × (width ≤ 32) }
-    ensures { result ≡ (if ring_fits width len then len / width else 0) }
-{
-    if len > MOST_KEYS * width || len % width != 0 {
-        return 0;
-    }
-    (len / width) as u32
-}
-
-impl<'a, C: BlockCipher> FromKeys<'a, C> for Ring<'a, C> {
-    fn from_keys(buffer: &'a [u8]) -> Ring<'a, C> {
-        let width = C::key_len();
-        let count = whole_keys(buffer.len(), width);
-        Ring {
-            keys: buffer,
-            width,
+    pub fn from_keys(buffer: &'a [u8]) -> Ring<'a, C>
+        ensures stack { ⟦<Ring<'a, C> as KeySource<C>>⟧.stack result ≡ ringed C.BlockCipher.model.key buffer.now }
+        ensures stands { ⟦<Ring<'a, C> as KeySource<C>>⟧.stands result ≡ None }
+    {
+        let n = C::key_len();
+        let fits = buffer.len() <= MOST_KEYS * n && buffer.len() % n == 0;
+        Bottom::new(LentKeys {
+            bytes: if fits { buffer } else { &[] },
             cipher: PhantomData,
-            tally: Tally::new(count),
-        }
+        })
     }
 }

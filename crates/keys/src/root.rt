@@ -1,11 +1,11 @@
 // A source of one key.
-ghost use Rattle.std.specs.Prelude.{◌≡◌, length, take, replicate, None};
-ghost use Rattle.keys.specs.Bottom.{founded, rooted};
+ghost use Rattle.std.specs.Prelude.{◌≡◌, length, take, replicate, cond, is_some, unwrap_or, [], None};
+ghost use Rattle.keys.specs.Bottom.{rooted};
 
-use crate::tally::Tally;
-use crate::{KeySource, MoveFault, Note};
+use crate::KeySource;
+use crate::bottom::Bottom;
+use crate::keys::Keys;
 use cipher::{BlockCipher, KeyBuffer};
-use std::marker::PhantomData;
 
 // Holds a lent key buffer, and fills it with zeros when it is let go.
 struct Wiped<'a>(&'a mut [u8]);
@@ -19,86 +19,45 @@ impl Drop for Wiped<'_> {
     }
 }
 
-// One key, in the first bytes of its buffer.
+// One key or none, in the first bytes of its buffer.
 #[derive(Drop)]
-pub struct Root<C: BlockCipher> {
-    key: KeyBuffer,
-    cipher: PhantomData<C>,
-    tally: Tally,
-}
+pub struct OneKey(Option<KeyBuffer>);
 
-impl<C: BlockCipher> KeySource<C> for Root<C> {
-    ghost stack = { λ s. founded s.tally.count (λ _. take C.BlockCipher.model.key s.key) };
+impl<C: BlockCipher> Keys<C> for OneKey {
+    ghost count = { λ s. cond (is_some s.0) 1 0 };
 
-    ghost stands = { λ s. s.tally.position };
-
-    ghost ledgers = { λ s _. s.tally.given };
-
-    ghost lawful = { λ s. Unit {0} };
+    ghost key = { λ s _. take C.BlockCipher.model.key (unwrap_or s.0 []) };
 
     fn count(&self) -> u32 {
-        self.tally.count
+        self.0.is_some() as u32
     }
 
-    fn position(&self) -> Option<u32> {
-        self.tally.position
-    }
-
-    fn levels(&self) -> u32 {
-        1
-    }
-
-    fn quota(&self, level: u32) -> Option<u32> {
-        if level == 0 { Some(1) } else { None }
-    }
-
-    fn ledger(&self, level: u32) -> Option<u32> {
-        self.tally.ledger(level)
-    }
-
-    fn renews_own_keys(&self) -> bool {
-        false
-    }
-
-    fn note(&self) -> Note {
-        self.tally.note()
-    }
-
-    fn move_to(&mut self, number: u32, key: &mut KeyBuffer) -> Result<(), MoveFault> {
-        self.tally.visit(number)?;
-        let n = C::key_len();
-        key[0..n].copy_from_slice(&self.key[0..n]);
-        Ok(())
+    fn key(&self, number: u32) -> Option<&[u8]> {
+        if number > 0 {
+            return None;
+        }
+        let key = self.0.as_ref()?;
+        Some(&key[..C::key_len()])
     }
 }
 
-// A source made of one lent key.
-pub trait FromKey<C: BlockCipher>: KeySource<C> {
+// A source of one key.
+pub type Root<C> = Bottom<C, OneKey>;
+
+impl<C: BlockCipher> Root<C> {
     // Takes the key out of the buffer, and leaves zeros there, also where the buffer does not hold one key.
-    fn from_key(buffer: &mut [u8]) -> Self
+    pub fn from_key(buffer: &mut [u8]) -> Root<C>
         ensures zeros { buffer.new ≡ replicate (length buffer.old) 0 }
-        ensures stack { Self.KeySource.stack result ≡ rooted C.BlockCipher.model.key buffer.old }
-        ensures stands { Self.KeySource.stands result ≡ None }
-        ensures lawful { Self.KeySource.lawful result };
-}
-
-impl<C: BlockCipher> FromKey<C> for Root<C> {
-    fn from_key(buffer: &mut [u8]) -> Root<C> {
+        ensures stack { ⟦<Root<C> as KeySource<C>>⟧.stack result ≡ rooted C.BlockCipher.model.key buffer.old }
+        ensures stands { ⟦<Root<C> as KeySource<C>>⟧.stands result ≡ None }
+    {
         let guard = Wiped(buffer);
         let n = C::key_len();
-        let mut key = [0; 32];
         if guard.0.len() != n {
-            return Root {
-                key,
-                cipher: PhantomData,
-                tally: Tally::new(0),
-            };
+            return Bottom::new(OneKey(None));
         }
-        key[0..n].copy_from_slice(guard.0);
-        Root {
-            key,
-            cipher: PhantomData,
-            tally: Tally::new(1),
-        }
+        let mut key = [0; 32];
+        key[..n].copy_from_slice(guard.0);
+        Bottom::new(OneKey(Some(key)))
     }
 }

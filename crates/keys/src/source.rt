@@ -4,7 +4,7 @@ ghost use Rattle.keys.specs.Stack.{Stack, count as count_of, quotas, levels as l
 ghost use Rattle.keys.specs.Sources.{Facts, told};
 ghost use Rattle.keys.specs.Moving.{Moved, Kept};
 
-use crate::{MoveFault, Note};
+use crate::{MoveFault, Refusal};
 use cipher::{BlockCipher, KeyBuffer};
 
 // A source of keys for a cipher, numbered from 0. It stands at a key's number, or nowhere before its first
@@ -19,14 +19,11 @@ pub trait KeySource<C: BlockCipher>: Sized + Drop {
     // The ledger of each level.
     ghost ledgers: { Self → ℕ → ℕ };
 
-    // Its parts fit together. Every making gives such a source, on such a source below, and every move leaves one.
-    ghost lawful: { Self → Type 0 };
-
     // How many keys it has.
     fn count(&self) -> u32
-        ensures value { lawful self.now → result ≡ count_of (stack self.now) }
+        ensures value { result ≡ count_of (stack self.now) }
         ensures few { result ≤ 16777216 }
-        ensures facts { lawful self.now → Facts (stack self.now) (stands self.now) (ledgers self.now) };
+        ensures facts { Facts (stack self.now) (stands self.now) (ledgers self.now) };
 
     // The number that it stands at, or none.
     fn position(&self) -> Option<u32>
@@ -34,30 +31,29 @@ pub trait KeySource<C: BlockCipher>: Sized + Drop {
 
     // How many levels it has.
     fn levels(&self) -> u32
-        ensures value { lawful self.now → result ≡ levels_of (stack self.now) }
+        ensures value { result ≡ levels_of (stack self.now) }
         ensures few { result ≤ 256 };
 
     // The quota of a level.
     fn quota(&self, level: u32) -> Option<u32>
-        ensures { lawful self.now → result ≡ entry (quotas (stack self.now)) level };
+        ensures { result ≡ entry (quotas (stack self.now)) level };
 
     // The ledger of a level.
     fn ledger(&self, level: u32) -> Option<u32>
-        ensures { lawful self.now → result ≡ told (levels_of (stack self.now)) (ledgers self.now) level };
+        ensures { result ≡ told (levels_of (stack self.now)) (ledgers self.now) level };
 
     // Whether the renewal constants are enciphered under the keys that it gives out.
     fn renews_own_keys(&self) -> bool
-        ensures { lawful self.now → result ≡ renews_keys (stack self.now) };
+        ensures { result ≡ renews_keys (stack self.now) };
 
-    // Its own level with the number 0, or why its making was refused.
-    fn note(&self) -> Note
-        ensures { lawful self.now → result ≡ note_of (stack self.now) };
+    // Its own level, or why its making was refused.
+    fn note(&self) -> Result<u32, Refusal>
+        ensures { result ≡ note_of (stack self.now) };
 
     // Moves to a key's number, and writes the key.
     fn move_to(&mut self, number: u32, key: &mut KeyBuffer) -> Result<(), MoveFault>
         ensures stack { stack self.new ≡ stack self.old }
-        ensures lawful { lawful self.old → lawful self.new }
-        ensures cases { lawful self.old → MatchResult result
+        ensures cases { MatchResult result
             (λ _. Moved C.BlockCipher.model (stack self.old) (stands self.old) number (ledgers self.old) (ledgers self.new) (stands self.new) key.old key.new)
             (λ f. Kept f (stack self.old) number (self.new ≡ self.old) (key.new ≡ key.old)) };
 }

@@ -13,7 +13,7 @@ pub fn walk<C: BlockCipher, S: KeySource<C>>(
     last: u32,
     key: &mut KeyBuffer,
 ) -> Result<(), MoveFault>
-    ensures { S.KeySource.lawful source.old → S.KeySource.stands source.old ≡ None → MatchResult result
+    ensures { S.KeySource.stands source.old ≡ None → MatchResult result
         (λ _. (last < count_of (S.KeySource.stack source.old)) × (key.new ≡ key_of C.BlockCipher.model (S.KeySource.stack source.old) last ++ drop C.BlockCipher.model.key key.old) × Walked (quotas (S.KeySource.stack source.old)) (suc last) (S.KeySource.stands source.new) (S.KeySource.ledgers source.new))
         (λ f. Kept f (S.KeySource.stack source.old) last (source.new ≡ source.old) (key.new ≡ key.old)) }
 {

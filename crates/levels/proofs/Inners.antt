@@ -4,14 +4,15 @@ use Rattle.cipher.specs.Model.{Model}
 use Rattle.rules.specs.Levels.{Level, ranged}
 use Rattle.rules.specs.InnerKeys.{stage, stepped, inner_key}
 use Rattle.rules.proofs.Inner.{stage_rises}
-use Rattle.levels.specs.LevelState.{Inner, Advanced}
+use Rattle.levels.specs.declared.maker.Inner.{Inner}
+use Rattle.levels.specs.Advanced.{IsInner, Advanced}
 
 module _ (c : Model) (l : Level) (p : List ℕ) where
-  pub inner_more : (inner out : List ℕ) {k : Level} (m : ℕ) → k ≡ l → take c.key out ≡ stepped c k (take c.key inner) → Inner c l p m inner → Inner c l p (m + 1) out
-  inner_more inner out m e h i = h ∙ (λ j. stepped c (e j) (i j)) ∙ ap (inner_key c l p) (sym (add-one m))
+  pub inner_more : (x y : Inner) {k : Level} → k ≡ l → take c.key y.key ≡ stepped c k (take c.key x.key) → y.stage ≡ x.stage + 1 → IsInner c l p x → IsInner c l p y
+  inner_more x y e h s i = h ∙ (λ j. stepped c (e j) (i j)) ∙ ap (inner_key c l p) (sym (s ∙ add-one x.stage))
 
-  pub made_more : (inner inner' : List ℕ) {k : Level} (m m' r : ℕ) → k ≡ l → Advanced c k r r m inner m' inner' → ranged l ≡ true
-      → (m ≤ stage l r) × Inner c l p m inner → (m' ≤ stage l (r + 1)) × Inner c l p m' inner'
-  made_more inner inner' m m' r e a h i =
-      let b = subst (λ x. Advanced c x r r m inner m' inner') e a p h i.0 i.1 in
+  pub made_more : (x y : Inner) {k : Level} (r : ℕ) → k ≡ l → Advanced c k r r x y → ranged l ≡ true
+      → (x.stage ≤ stage l r) × IsInner c l p x → (y.stage ≤ stage l (r + 1)) × IsInner c l p y
+  made_more x y r e a h i =
+      let b = subst (λ k. Advanced c k r r x y) e a p h i.0 i.1 in
       (let s = stage_rises l r (r + 1) (omega arith) in omega (arith, b.0), b.1)

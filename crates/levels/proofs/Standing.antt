@@ -1,24 +1,23 @@
 -- What a level is, and what a move makes of it. Assumes nothing.
-use Rattle.std.proofs.Common.{◌≡◌, ℕ, suc, ◌+◌, ◌-◌, ◌*◌, ◌/◌, ◌%◌, ◌<◌, ◌≤◌, Bool, true, false, cond, ◌&&◌, eqb, ltb, List, ◌∷◌, ◌++◌, length, take, drop, IfSome, Some, None, Option, sym, refl, ap, ◌∙◌, subst, inl, inr, mul-le-mul_right, mod-lt, div-add-mod', div-one, arith, MatchOption}
+use Rattle.std.proofs.Common.{◌≡◌, ℕ, suc, ◌+◌, ◌-◌, ◌*◌, ◌/◌, ◌%◌, ◌<◌, ◌≤◌, Bool, true, false, cond, ◌&&◌, eqb, ltb, List, ◌∷◌, ◌++◌, length, take, drop, replicate, IfSome, Some, None, Ok, Option, Result, sym, refl, ap, ◌∙◌, subst, inl, inr, mod-lt, div-add-mod', div-one, arith, MatchOption}
 use native.Mathlib.Nat.{div-div-eq-div-mul}
 use lib.Arith.{digits_div}
 use Rattle.std.proofs.lemmas.Bool.Decides.{nat_tests, eqb_tells, leb_tells}
-use Rattle.cipher.specs.Model.{Model}
+use Rattle.cipher.specs.Model.{Model, Laws}
+use Rattle.cipher.proofs.Joining.{front}
+use Rattle.cipher.proofs.Sizes.{key_within}
 use Rattle.rules.specs.Levels.{Level, renews_own}
 use Rattle.rules.specs.LevelKeys.{level_key}
 use Rattle.rules.specs.InnerKeys.{stage, given, inner_key}
 use Rattle.rules.proofs.Inner.{by_inner, stage_rises}
-use Rattle.keys.specs.declared.refusals.MoveFault.{MoveFault}
-use Rattle.keys.specs.declared.refusals.MoveFault.TheVariants.{PastCount}
-use Rattle.keys.specs.declared.refusals.Note.{Note}
-use Rattle.keys.specs.Stack.{Stack, on, refused, count, quotas, levels, key, entry, above}
-use Rattle.keys.specs.Moving.{capped, div, Next, Rises, Raised, Moved, move_refusal}
-use Rattle.levels.specs.Making.{idle_quotas}
-use Rattle.levels.specs.LevelState.{stack_of, ledgers_of, Inner, Here, Stands, Sits, onward, first_of}
-
--- the source below does not refuse
-pub no_refusal : {i m : ℕ} (q : ℕ) (s : Stack) (f : MoveFault) → i < m → m ≡ count s * q → (move_refusal f).given s (i / q) → ⊥
-no_refusal {i} q s PastCount h c p = omega (arith, div-add-mod' i q, mul-le-mul_right q p)
+use Rattle.keys.specs.declared.refusals.Refusal.{Refusal}
+use Rattle.keys.specs.Stack.{Stack, on, quotas, levels, count, key, above}
+use Rattle.keys.specs.Moving.{capped, div, Next, Rises, Raised, Moved}
+use Rattle.levels.specs.declared.maker.Inner.{Inner}
+use Rattle.levels.specs.declared.step.Step.{Step}
+use Rattle.levels.specs.Onward.{onward, first_of}
+use Rattle.levels.specs.Advanced.{IsInner, Advanced}
+use Rattle.levels.specs.LevelState.{stack_of, ledgers_of, Here, Stands, Sits}
 
 -- the ledgers, level by level
 
@@ -31,7 +30,7 @@ div_div q a None = refl
 div_div q a (Some i) = ap Some (div-div-eq-div-mul i q a)
 
 -- one level more, of quota q, whose ledger goes from b to a
-pub raised_on : (q : ℕ) (qs : List ℕ) (from : Option ℕ) (to b a : ℕ) (low low' : ℕ → ℕ) → Rises q from to b a → Raised qs (div q from) (to / q) low low'
+raised_on : (q : ℕ) (qs : List ℕ) (from : Option ℕ) (to b a : ℕ) (low low' : ℕ → ℕ) → Rises q from to b a → Raised qs (div q from) (to / q) low low'
     → Raised (q ∷ qs) from to (λ j. cond (eqb j (length qs)) b (low j)) (λ j. cond (eqb j (length qs)) a (low' j))
 raised_on q qs from to b a low low' top below j h =
     elim (eqb_tells j (length qs)) [
@@ -70,7 +69,7 @@ first_next true q (Some b) rem i one h e =
       | inr s ↦ let z : i % q ≡ 0 = next_mod one e s.1 in rw s.0 (sym z)
     ]
 
-pub rises_made : {q first last b a : ℕ} {from : Option ℕ} {i : ℕ} → last < q → (from ≡ Some i → ⊥) → first ≤ last → (Next from i → first ≡ last)
+rises_made : {q first last b a : ℕ} {from : Option ℕ} {i : ℕ} → last < q → (from ≡ Some i → ⊥) → first ≤ last → (Next from i → first ≡ last)
     → a ≡ capped (b + (suc last - first)) → Rises q from i b a
 rises_made lt other low next e = record {
   stays = λ h. absurd (other h);
@@ -79,136 +78,140 @@ rises_made lt other low next e = record {
   few = λ _. omega arith;
 }
 
-module _ {c : Model} {lawful : Type 0} {s : Stack} {below : Option ℕ} {low : ℕ → ℕ} {l : Level} {m q rem made at_stage : ℕ} {x : Note} {at : Option ℕ}
-    {inner current : List ℕ} (sits : Sits c lawful s below low l m q rem made at_stage x at inner current) where
-  pub own_quota : {n j : ℕ} → n ≡ levels s → n < 256 → j ≡ n → Some q ≡ entry (quotas (stack_of m l x s)) j
-  own_quota {n} {j} e h f =
-      let here : eqb j (levels s) ≡ true = grind (arith, nat_tests) in
-      let room : ltb (levels s) 256 ≡ true = grind (arith, nat_tests) in
-      elim (leb_tells 1 m) [
-        | inl t ↦ rw (t.0, here) (ap Some (sits.stands t.1).quota_is)
-        | inr t ↦ rw (t.0, room, here) (ap Some (sits.idle (omega (arith, t.1))).0)
-      ]
-
 -- the inner key to go on from
 
 first_high : (own : Bool) (r last : ℕ) → r < last → r ≤ first_of own (Some r) last
 first_high false r last h = omega arith
 first_high true r last h = omega arith
 
-begun_anew : (c : Model) (l : Level) (p parent inner' : List ℕ) (m' first : ℕ) → take c.key parent ≡ p → (inner' ≡ parent) × (m' ≡ 0)
-    → (m' ≤ stage l first) × Inner c l p m' inner'
-begun_anew c l p parent inner' m' first e h = (omega (arith, h.1), ap (take c.key) h.0 ∙ e ∙ ap (inner_key c l p) (sym h.1))
+module _ (c : Model) (s : Stack) (l : Level) (t : Step) (inner : Inner) (current : List ℕ) (i : ℕ) (parent : List ℕ) (x : Inner) (first : ℕ) where
+  begun_anew : take c.key parent ≡ key c s (i / t.quota) → (x.key ≡ parent) × (x.stage ≡ 0) → (x.stage ≤ stage l first) × IsInner c l (key c s (i / t.quota)) x
+  begun_anew p h = (omega (arith, h.1), ap (take c.key) h.0 ∙ p ∙ ap (inner_key c l (key c s (i / t.quota))) (sym h.1))
 
-begun_on : (c : Model) (s : Stack) (l : Level) (own : Bool) (m q rem at_stage : ℕ) (inner current : List ℕ) (b i : ℕ) (inner' : List ℕ) (m' first : ℕ)
-    → Here c s l m q rem at_stage inner current b → b / q ≡ i / q → rem < i % q → first ≡ first_of own (Some rem) (i % q) → (inner' ≡ inner) × (m' ≡ at_stage)
-    → (m' ≤ stage l first) × Inner c l (key c s (i / q)) m' inner'
-begun_on c s l own m q rem at_stage inner current b i inner' m' first h same lt f e =
-    let high = first_high own rem (i % q) lt in
-    let up = stage_rises l rem first (omega arith) in
-    let st : at_stage ≡ stage l rem = h.stage_is ∙ ap (stage l) (sym h.remainder_is) in
-    (omega (arith, e.1), ap (take c.key) e.0 ∙ h.inner_is ∙ ap (λ z. inner_key c l (key c s z) at_stage) same ∙ ap (inner_key c l (key c s (i / q))) (sym e.1))
+  begun_on : (own : Bool) (b : ℕ) → Here c s l t inner current b → b / t.quota ≡ i / t.quota → t.remainder < i % t.quota
+      → first ≡ first_of own (Some t.remainder) (i % t.quota) → x ≡ inner → (x.stage ≤ stage l first) × IsInner c l (key c s (i / t.quota)) x
+  begun_on own b h same lt f e =
+      let high = first_high own t.remainder (i % t.quota) lt in
+      let up = stage_rises l t.remainder first (omega arith) in
+      let st : inner.stage ≡ stage l t.remainder = h.stage_is ∙ ap (stage l) (sym h.remainder_is) in
+      subst (λ y. (y.stage ≤ stage l first) × IsInner c l (key c s (i / t.quota)) y) (sym e)
+      (omega arith, h.inner_is ∙ ap (λ z. inner_key c l (key c s z) inner.stage) same)
 
-begun_at : (c : Model) (s : Stack) (l : Level) (own : Bool) (m q rem at_stage : ℕ) (inner current : List ℕ) (at : Option ℕ) (i : ℕ) (parent inner' : List ℕ) (m' first : ℕ)
-    → IfSome at (Here c s l m q rem at_stage inner current) → take c.key parent ≡ key c s (i / q) → first ≡ first_of own (onward q at rem i) (i % q)
-    → MatchOption (onward q at rem i) ((inner' ≡ parent) × (m' ≡ 0)) (λ _. (inner' ≡ inner) × (m' ≡ at_stage))
-    → (m' ≤ stage l first) × Inner c l (key c s (i / q)) m' inner'
-begun_at c s l own m q rem at_stage inner current None i parent inner' m' first h p f k = begun_anew c l (key c s (i / q)) parent inner' m' first p k
-begun_at c s l own m q rem at_stage inner current (Some b) i parent inner' m' first h p f k =
-    let A = (inner' ≡ parent) × (m' ≡ 0) in
-    let B : ℕ → Type 0 = λ _. (inner' ≡ inner) × (m' ≡ at_stage) in
-    elim (eqb_tells (b / q) (i / q)) [
-      | inl e ↦ elim (leb_tells (suc rem) (i % q)) [
-        | inl t ↦
-            let yes : eqb (b / q) (i / q) && ltb rem (i % q) ≡ true = rw (e.0, t.0) in
-            begun_on c s l own m q rem at_stage inner current b i inner' m' first h e.1 t.1
-            (f ∙ ap (λ y. first_of own (cond y (Some rem) None) (i % q)) yes) (subst (λ y. MatchOption (cond y (Some rem) None) A B) yes k)
-        | inr t ↦
-            let no : eqb (b / q) (i / q) && ltb rem (i % q) ≡ false = rw (e.0, t.0) in
-            begun_anew c l (key c s (i / q)) parent inner' m' first p (subst (λ y. MatchOption (cond y (Some rem) None) A B) no k)
+  begun : (own : Bool) (at : Option ℕ) → IfSome at (Here c s l t inner current) → take c.key parent ≡ key c s (i / t.quota)
+      → first ≡ first_of own (onward t.quota at t.remainder i) (i % t.quota)
+      → MatchOption (onward t.quota at t.remainder i) ((x.key ≡ parent) × (x.stage ≡ 0)) (λ _. x ≡ inner)
+      → (x.stage ≤ stage l first) × IsInner c l (key c s (i / t.quota)) x
+  begun own None h p f k = begun_anew p k
+  begun own (Some b) h p f k =
+      let A = (x.key ≡ parent) × (x.stage ≡ 0) in
+      let B : ℕ → Type 0 = λ _. x ≡ inner in
+      let r = t.remainder in
+      let q = t.quota in
+      elim (eqb_tells (b / q) (i / q)) [
+        | inl e ↦ elim (leb_tells (suc r) (i % q)) [
+          | inl u ↦
+              let yes : eqb (b / q) (i / q) && ltb r (i % q) ≡ true = rw (e.0, u.0) in
+              begun_on own b h e.1 u.1 (f ∙ ap (λ y. first_of own (cond y (Some r) None) (i % q)) yes) (subst (λ y. MatchOption (cond y (Some r) None) A B) yes k)
+          | inr u ↦
+              let no : eqb (b / q) (i / q) && ltb r (i % q) ≡ false = rw (e.0, u.0) in
+              begun_anew p (subst (λ y. MatchOption (cond y (Some r) None) A B) no k)
+        ]
+        | inr e ↦
+            let no : eqb (b / q) (i / q) && ltb r (i % q) ≡ false = rw e.0 in
+            begun_anew p (subst (λ y. MatchOption (cond y (Some r) None) A B) no k)
       ]
-      | inr e ↦
-          let no : eqb (b / q) (i / q) && ltb rem (i % q) ≡ false = rw e.0 in
-          begun_anew c l (key c s (i / q)) parent inner' m' first p (subst (λ y. MatchOption (cond y (Some rem) None) A B) no k)
-    ]
 
-remainder_at : (c : Model) (s : Stack) (l : Level) (m q rem at_stage : ℕ) (inner current : List ℕ) (at : Option ℕ)
-    → IfSome at (Here c s l m q rem at_stage inner current) → IfSome at (λ b. rem ≡ b % q)
-remainder_at c s l m q rem at_stage inner current None h = tt
-remainder_at c s l m q rem at_stage inner current (Some b) h = h.remainder_is
+remainder_at : (c : Model) (s : Stack) (l : Level) (t : Step) (inner : Inner) (current : List ℕ) (at : Option ℕ)
+    → IfSome at (Here c s l t inner current) → IfSome at (λ b. t.remainder ≡ b % t.quota)
+remainder_at c s l t inner current None h = tt
+remainder_at c s l t inner current (Some b) h = h.remainder_is
 
-moved_as : {c : Model} {s t : Stack} {at to : Option ℕ} {i : ℕ} {before before' after after' : ℕ → ℕ} {held out : List ℕ} → s ≡ t → before ≡ before' → after ≡ after'
-    → Moved c t at i before' after' to held out → Moved c s at i before after to held out
-moved_as {c} {s} {t} {at} {to} {i} {before} {before'} {after} {after'} {held} {out} e f g h =
-    subst (λ y. Moved c y at i before after to held out) (sym e)
-    (subst (λ y. Moved c t at i y after to held out) (sym f) (subst (λ y. Moved c t at i before' y to held out) (sym g) h))
+-- a level whose numbers are t
+pub stands_by : {c : Model} {s : Stack} {below : Option ℕ} {low : ℕ → ℕ} {l : Level} {at : Option ℕ} {made : ℕ} {inner : Inner} {current : List ℕ} (r : Result Step Refusal) (t : Step)
+    → r ≡ Ok t → Sits c s below low l r at made inner current → Stands c s below low l t at made inner current
+stands_by {c} {s} {below} {low} {l} {at} {made} {inner} {current} r t e h = subst (λ y. Sits c s below low l y at made inner current) e h
 
-module _ {c : Model} {lawful : Type 0} {s : Stack} {below : Option ℕ} {low : ℕ → ℕ} {l : Level} {m q rem made at_stage : ℕ} {x : Note} {at : Option ℕ}
-    {inner current : List ℕ} (sits : Sits c lawful s below low l m q rem made at_stage x at inner current) (i : ℕ) (h : i < m) where
-  stands : Stands c s below low l m q rem made at_stage x at inner current
-  stands = sits.stands (omega arith)
+moved_as : {c : Model} {s : Stack} {at to : Option ℕ} {i : ℕ} {before before' after after' : ℕ → ℕ} {held out : List ℕ} → before ≡ before' → after ≡ after'
+    → Moved c s at i before' after' to held out → Moved c s at i before after to held out
+moved_as {c} {s} {at} {to} {i} {before} {before'} {after} {after'} {held} {out} f g h =
+    subst (λ y. Moved c s at i y after to held out) (sym f) (subst (λ y. Moved c s at i before' y to held out) (sym g) h)
 
-  pub begun : (o : Option ℕ) (parent inner' : List ℕ) (m' first : ℕ) → o ≡ onward q at rem i → take c.key parent ≡ key c s (i / q)
-      → first ≡ first_of (renews_own l) o (i % q) → MatchOption o ((inner' ≡ parent) × (m' ≡ 0)) (λ _. (inner' ≡ inner) × (m' ≡ at_stage))
-      → (m' ≤ stage l first) × Inner c l (key c s (i / q)) m' inner'
-  begun o parent inner' m' first e p f k =
-      begun_at c s l (renews_own l) m q rem at_stage inner current at i parent inner' m' first stands.here p (f ∙ ap (λ y. first_of (renews_own l) y (i % q)) e)
-      (subst (λ y. MatchOption y ((inner' ≡ parent) × (m' ≡ 0)) (λ _. (inner' ≡ inner) × (m' ≡ at_stage))) e k)
+-- the inner key and the current key of a level are those of i
+pub record MadeAt (c : Model) (s : Stack) (l : Level) (q i : ℕ) (y : Inner) (current : List ℕ) : Type 0 where
+  pub stage_is : y.stage ≡ stage l (i % q)
+  pub inner_is : IsInner c l (key c s (i / q)) y
+  pub current_is : take c.key current ≡ level_key c l (key c s (i / q)) (i % q)
 
-  -- the key that was made is the level's
-  pub made_key : (inner' current' : List ℕ) (m' : ℕ) → (m' ≡ stage l (i % q)) × Inner c l (key c s (i / q)) m' inner'
-      → take c.key current' ≡ given c l (take c.key inner') (i % q) → take c.key current' ≡ level_key c l (key c s (i / q)) (i % q)
-  made_key inner' current' m' f e =
-      e ∙ ap (λ y. given c l y (i % q)) (f.1 ∙ ap (inner_key c l (key c s (i / q))) f.0) ∙ by_inner c l (key c s (i / q)) (i % q)
-
-  pub sits_on : {lawful' : Type 0} {s' : Stack} {below' : Option ℕ} {low' : ℕ → ℕ} {l' : Level} {made' m' : ℕ} (inner' current' : List ℕ)
-      → lawful' → s' ≡ s → l' ≡ l → below' ≡ Some (i / q) → (m' ≡ stage l (i % q)) × Inner c l (key c s (i / q)) m' inner'
-      → take c.key current' ≡ given c l (take c.key inner') (i % q)
-      → Sits c lawful' s' below' low' l' m q (i % q) made' m' x (Some i) inner' current'
-  sits_on {lawful'} {s'} {below'} {low'} {l'} {made'} {m'} inner' current' y es el b f e =
-      subst (λ t. Sits c lawful' t below' low' l' m q (i % q) made' m' x (Some i) inner' current') (sym es)
-      (subst (λ t. Sits c lawful' s below' low' t m q (i % q) made' m' x (Some i) inner' current') (sym el)
+module _ {c : Model} {s : Stack} {below : Option ℕ} {low : ℕ → ℕ} {l : Level} {t : Step} {at : Option ℕ} {made : ℕ} {inner : Inner} {current : List ℕ}
+    (stands : Stands c s below low l t at made inner current) (i : ℕ) (h : i < t.count) where
+  -- the keys that were made, on from the inner key x
+  pub made_at : {k : Level} {low' : ℕ → ℕ} {below' : Option ℕ} {first : ℕ} (o : Option ℕ) (x y : Inner) (current' parent : List ℕ) → k ≡ l → Laws c
+      → Moved c s below (i / t.quota) low low' below' (replicate 32 0) parent → length parent ≡ 32
+      → o ≡ onward t.quota at t.remainder i → first ≡ first_of (renews_own l) o (i % t.quota)
+      → MatchOption o ((x.key ≡ parent) × (x.stage ≡ 0)) (λ _. x ≡ inner) → Advanced c k first (i % t.quota) x y
+      → take c.key current' ≡ given c k (take c.key y.key) (i % t.quota) → MadeAt c s l t.quota i y current'
+  made_at {first = first} o x y current' parent ek laws moved long e f k a g =
+      let r = i % t.quota in
+      let p = key c s (i / t.quota) in
+      let is_parent : take c.key parent ≡ p = front c.key p (replicate 32 0) parent moved.key_is long (key_within c laws) in
+      let b = begun c s l t inner current i parent x first (renews_own l) at stands.here is_parent (f ∙ ap (λ y. first_of (renews_own l) y r) e)
+      (subst (λ y. MatchOption y ((x.key ≡ parent) × (x.stage ≡ 0)) (λ _. x ≡ inner)) e k) in
+      let end = subst (λ k. Advanced c k first r x y) ek a p stands.accepted.1 b.0 b.1 in
       record {
-        low_is = y;
-        stands = λ _. record {
-          accepted = stands.accepted;
-          count_is = stands.count_is;
-          quota_is = stands.quota_is;
-          note_is = stands.note_is;
-          tied = b;
-          fresh = λ n. absurd (let z : ◌≡◌ {A = ℕ} 0 1 = cc in omega arith);
-          here = record {
-            within = h;
-            remainder_is = refl;
-            stage_is = f.0;
-            inner_is = f.1;
-            current_is = made_key inner' current' m' f e;
-          };
+        stage_is = end.0;
+        inner_is = end.1;
+        current_is = g ∙ (λ j. given c (ek j) (take c.key y.key) r) ∙ ap (λ z. given c l z r) (end.1 ∙ ap (inner_key c l p) end.0) ∙ by_inner c l p r;
+      }
+
+  -- where the level stands after the move
+  pub stands_on : {s' : Stack} {below' : Option ℕ} {low' : ℕ → ℕ} {l' : Level} {made' : ℕ} (t' : Step) (y : Inner) (current' : List ℕ)
+      → t'.count ≡ t.count → t'.quota ≡ t.quota → t'.remainder ≡ i % t.quota → s' ≡ s → l' ≡ l → below' ≡ Some (i / t.quota)
+      → MadeAt c s l t.quota i y current' → Stands c s' below' low' l' t' (Some i) made' y current'
+  stands_on {s'} {below'} {low'} {l'} {made'} t' y current' ec eq er es el b f =
+      let eq' = sym eq in
+      subst (λ z. Stands c z below' low' l' t' (Some i) made' y current') (sym es)
+      (subst (λ z. Stands c s below' low' z t' (Some i) made' y current') (sym el)
+      record {
+        accepted = stands.accepted;
+        count_is = ec ∙ stands.count_is ∙ ap (λ q. count s * q) (sym eq);
+        quota_is = eq ∙ stands.quota_is;
+        tied = b ∙ ap (λ q. Some (i / q)) (sym eq);
+        fresh = λ n. cc;
+        here = record {
+          within = omega arith;
+          remainder_is = er ∙ (λ k. i % eq' k);
+          stage_is = f.stage_is ∙ (λ k. stage l (i % eq' k));
+          inner_is = f.inner_is ∙ (λ k. inner_key c l (key c s (i / eq' k)) y.stage);
+          current_is = f.current_is ∙ (λ k. level_key c l (key c s (i / eq' k)) (i % eq' k));
         };
-        idle = λ z. absurd (omega arith);
       })
 
-  pub moves : {s' : Stack} {low' : ℕ → ℕ} {below' : Option ℕ} {made' m' first : ℕ} (o : Option ℕ) (inner' current' parent zeros held out : List ℕ)
-      → 1 ≤ q → (at ≡ Some i → ⊥) → s' ≡ s → Moved c s below (i / q) low low' below' zeros parent
-      → o ≡ onward q at rem i → ((r : ℕ) → o ≡ Some r → r < i % q) → first ≡ first_of (renews_own l) o (i % q)
-      → made' ≡ capped (made + (suc (i % q) - first))
-      → (m' ≡ stage l (i % q)) × Inner c l (key c s (i / q)) m' inner'
-      → take c.key current' ≡ given c l (take c.key inner') (i % q)
-      → out ≡ take c.key current' ++ drop c.key held
-      → Moved c (stack_of m l x s) at i (ledgers_of m (levels s) made low) (ledgers_of m (levels s') made' low') (Some i) held out
-  moves {s'} {low'} {below'} {made'} {m'} {first} o inner' current' parent zeros held out one other es moved eo before ef em f e eh =
-      let alive : ltb 0 m ≡ true = grind (arith, nat_tests) in
+  -- what the move does
+  pub moves : {s' : Stack} {low' : ℕ → ℕ} {below' : Option ℕ} {made' first : ℕ} (o : Option ℕ) (y : Inner) (current' parent zeros held out : List ℕ)
+      → 1 ≤ t.quota → (at ≡ Some i → ⊥) → s' ≡ s → Moved c s below (i / t.quota) low low' below' zeros parent
+      → o ≡ onward t.quota at t.remainder i → ((r : ℕ) → o ≡ Some r → r < i % t.quota) → first ≡ first_of (renews_own l) o (i % t.quota)
+      → made' ≡ capped (made + (suc (i % t.quota) - first))
+      → MadeAt c s l t.quota i y current' → out ≡ take c.key current' ++ drop c.key held
+      → Moved c (on l s) at i (λ j. cond (eqb j (levels s)) made (low j)) (λ j. cond (eqb j (levels s')) made' (low' j)) (Some i) held out
+  moves {s'} {low'} {below'} {made'} {first} o y current' parent zeros held out one other es moved eo before ef em f eh =
+      let q = t.quota in
       let eq = stands.quota_is in
       let low_first : first ≤ i % q = let g = first_low (renews_own l) o (i % q) before in omega arith in
       let next : Next at i → first ≡ i % q = λ n. ef ∙ ap (λ y. first_of (renews_own l) y (i % q)) eo
-      ∙ first_next (renews_own l) q at rem i one (remainder_at c s l m q rem at_stage inner current at stands.here) n in
+      ∙ first_next (renews_own l) q at t.remainder i one (remainder_at c s l t inner current at stands.here) n in
       let top : Rises q at i made made' = rises_made (mod-lt i one) other low_first next em in
       let lower : Raised (quotas s) (div q at) (i / q) low low' = subst (λ y. Raised (quotas s) y (i / q) low low') stands.tied moved.ledgers in
       let all = raised_on q (quotas s) at i made made' low low' top lower in
-      moved_as (ap (λ b. cond b (on l s) (refused x (idle_quotas s))) alive) (λ k j. cond (alive k) (cond (eqb j (levels s)) made (low j)) 0)
-      (λ k j. cond (alive k) (cond (eqb j (levels (es k))) made' (low' j)) 0) record {
+      moved_as refl (λ k j. cond (eqb j (levels (es k))) made' (low' j)) record {
         within = omega (arith, stands.count_is, ap (λ y. count s * y) eq);
-        key_is = eh ∙ ap (λ y. y ++ drop c.key held) (made_key inner' current' m' f e ∙ (λ j. level_key c l (key c s (i / eq j)) (i % eq j)));
+        key_is = eh ∙ ap (λ y. y ++ drop c.key held) (f.current_is ∙ (λ j. level_key c l (key c s (i / eq j)) (i % eq j)));
         stands = refl;
         ledgers = subst (λ y. Raised (y ∷ quotas s) at i (λ j. cond (eqb j (levels s)) made (low j)) (λ j. cond (eqb j (levels s)) made' (low' j))) eq all;
       }
+
+-- the same of a level as it is kept
+pub moves_by : {c : Model} {s : Stack} {at to : Option ℕ} {after : ℕ → ℕ} {l : Level} {i : ℕ} {held out : List ℕ} (r : Result Step Refusal) (t : Step) (made : ℕ) (low : ℕ → ℕ) → r ≡ Ok t
+    → Moved c (on l s) at i (λ j. cond (eqb j (levels s)) made (low j)) after to held out
+    → Moved c (stack_of r l s) at i (ledgers_of r (levels s) made low) after to held out
+moves_by {c} {s} {at} {to} {after} {l} {i} {held} {out} r t made low e h =
+    subst (λ y. Moved c (stack_of y l s) at i (ledgers_of y (levels s) made low) after to held out) (sym e) h

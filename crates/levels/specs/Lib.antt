@@ -1,2 +1,6 @@
 pub mod Making
+pub mod Onward
+pub mod Advanced
+pub mod Numbers
 pub mod LevelState
+pub mod OneProof

@@ -1,13 +1,15 @@
 // A level on a source of keys.
-ghost use Rattle.std.specs.Prelude.{◌≡◌, ℕ, ◌/◌, ◌%◌, ◌<◌, ◌≤◌, ◌++◌, take, drop, Some, None, Decides, Option};
+ghost use Rattle.std.specs.Prelude.{◌≡◌, ◌<◌, not, is_some, None, Ok, MatchResult};
 ghost use Rattle.keys.specs.Stack.{levels as levels_of};
-ghost use Rattle.levels.specs.LevelState.{stack_of, ledgers_of, Sits, onward as onward_from};
+ghost use Rattle.keys.specs.Moving.{move_refusal};
+ghost use Rattle.levels.specs.Making.{stood, AtLimit};
+ghost use Rattle.levels.specs.LevelState.{stack_of, ledgers_of, Sits};
+ghost use Rattle.levels.specs.OneProof.{Sits-prop};
 
-use crate::OnSource;
 use crate::maker::Maker;
-use crate::step::{Ground, MOST_LEVELS, Step};
+use crate::step::{MOST_LEVELS, Step};
 use cipher::{BlockCipher, KeyBuffer};
-use keys::{KeySource, MoveFault, Note};
+use keys::{KeySource, MoveFault, Refusal};
 use rules::Rule;
 
 // A level that makes, by a rule, some keys of each key of the source below.
@@ -15,60 +17,21 @@ use rules::Rule;
 pub struct Level<C: BlockCipher, S: KeySource<C>, R: Rule<C>> {
     below: S,
     maker: Maker<C, R>,
-    step: Step,
-    note: Note,
+    // Its numbers, or why it was not made.
+    step: Result<Step, Refusal>,
     position: Option<u32>,
-}
-
-impl<C: BlockCipher, S: KeySource<C>, R: Rule<C>> Level<C, S, R> {
-    fn stands_at(&self, number: u32) -> bool
-        ensures { Decides result (self.now.position ≡ Some number) }
-    {
-        match self.position {
-            Some(at) => at == number,
-            None => false,
-        }
-    }
-
-    // The remainder to go on from, where it stands under the same key below and before the number.
-    fn onward(&self, number: u32) -> Option<u32>
-        ensures value { result ≡ onward_from self.now.step.quota self.now.position self.now.step.remainder number }
-        ensures before { (k : ℕ) → result ≡ Some k → k < number % self.now.step.quota }
-    {
-        let Step {
-            quota,
-            remainder,
-            ..
-        } = self.step;
-        let Some(at) = self.position else {
-            return None;
-        };
-        if at / quota == number / quota && remainder < number % quota {
-            return Some(remainder);
-        }
-        None
-    }
-
-    // Writes the current key.
-    fn hand_out(&self, key: &mut KeyBuffer)
-        ensures { key.new ≡ take C.BlockCipher.model.key self.now.maker.current ++ drop C.BlockCipher.model.key key.old }
-    {
-        let n = C::key_len();
-        key[0..n].copy_from_slice(&self.maker.current[0..n]);
-    }
+    ghost sits: { Sits C.BlockCipher.model (S.KeySource.stack below) (S.KeySource.stands below) (S.KeySource.ledgers below) (R.Rule.kind maker.rule) step position maker.made maker.inner maker.current } by { Sits-prop C.BlockCipher.model (S.KeySource.stack below) (S.KeySource.stands below) (S.KeySource.ledgers below) (R.Rule.kind maker.rule) step position maker.made maker.inner maker.current },
 }
 
 impl<C: BlockCipher, S: KeySource<C>, R: Rule<C>> KeySource<C> for Level<C, S, R> {
-    ghost stack = { λ s. stack_of s.step.count (R.Rule.kind s.maker.rule) s.note (S.KeySource.stack s.below) };
+    ghost stack = { λ s. stack_of s.step (R.Rule.kind s.maker.rule) (S.KeySource.stack s.below) };
 
     ghost stands = { λ s. s.position };
 
-    ghost ledgers = { λ s. ledgers_of s.step.count (levels_of (S.KeySource.stack s.below)) s.maker.made (S.KeySource.ledgers s.below) };
-
-    ghost lawful = { λ s. Sits C.BlockCipher.model (S.KeySource.lawful s.below) (S.KeySource.stack s.below) (S.KeySource.stands s.below) (S.KeySource.ledgers s.below) (R.Rule.kind s.maker.rule) s.step.count s.step.quota s.step.remainder s.maker.made s.maker.stage s.note s.position s.maker.inner s.maker.current };
+    ghost ledgers = { λ s. ledgers_of s.step (levels_of (S.KeySource.stack s.below)) s.maker.made (S.KeySource.ledgers s.below) };
 
     fn count(&self) -> u32 {
-        self.step.count
+        self.step.map_or(0, |step| step.count)
     }
 
     fn position(&self) -> Option<u32> {
@@ -76,82 +39,83 @@ impl<C: BlockCipher, S: KeySource<C>, R: Rule<C>> KeySource<C> for Level<C, S, R
     }
 
     fn levels(&self) -> u32 {
-        let below = self.below.levels();
-        if below < MOST_LEVELS {
-            below + 1
-        } else {
-            below
-        }
+        (self.below.levels() + 1).min(MOST_LEVELS)
     }
 
     fn quota(&self, level: u32) -> Option<u32> {
         let below = self.below.levels();
-        if below < MOST_LEVELS && level == below {
-            return Some(self.step.quota);
+        if level == below && below < MOST_LEVELS {
+            return Some(self.step.map_or(1, |step| step.quota));
         }
         self.below.quota(level)
     }
 
     fn ledger(&self, level: u32) -> Option<u32> {
-        let below = self.below.levels();
-        if self.step.count == 0 {
-            return if level < self.levels() { Some(0) } else { None };
+        if self.step.is_err() {
+            return (level < self.levels()).then_some(0);
         }
-        if level == below {
+        if level == self.below.levels() {
             return Some(self.maker.made);
         }
         self.below.ledger(level)
     }
 
     fn renews_own_keys(&self) -> bool {
-        self.step.count > 0 && self.maker.rule.renews_own_keys()
+        self.step.is_ok() && self.maker.rule.renews_own_keys()
     }
 
-    fn note(&self) -> Note {
-        self.note
+    fn note(&self) -> Result<u32, Refusal> {
+        let own = self.below.levels();
+        self.step.map(|_| own)
     }
 
     fn move_to(&mut self, number: u32, key: &mut KeyBuffer) -> Result<(), MoveFault> {
-        let Step { count, quota, .. } = self.step;
-        if number >= count {
-            return Err(MoveFault::PastCount);
-        }
-        if self.stands_at(number) {
-            self.hand_out(key);
+        let step = self.step_to(number)?;
+        if self.position == Some(number) {
+            self.maker.hand_out(key);
             return Ok(());
         }
+        let onward = step.onward(self.position, number);
+        let remainder = number % step.quota;
         let mut parent = [0; 32];
-        self.below.move_to(number / quota, &mut parent)?;
-        let remainder = number % quota;
-        let onward = self.onward(number);
+        self.below.move_to(number / step.quota, &mut parent)?;
         let first = self.maker.prepare(&parent, onward, remainder);
         self.maker.make_through(first, remainder);
-        self.step = Step {
-            count,
-            quota,
+        self.step = Ok(Step {
+            count: step.count,
+            quota: step.quota,
             remainder,
-        };
+        });
         self.position = Some(number);
-        self.hand_out(key);
+        self.maker.hand_out(key);
         Ok(())
     }
 }
 
-impl<C: BlockCipher, S: KeySource<C>, R: Rule<C>> OnSource<C, S, R> for Level<C, S, R> {
-    fn stand(below: S, rule: R) -> Level<C, S, R> {
-        let ground = Ground {
-            fresh: !below.position().is_some(),
-            renewed: below.renews_own_keys(),
-            levels: below.levels(),
-            count: below.count(),
-            note: below.note(),
-        };
-        let (step, note) = Step::settle::<C, R>(&rule, ground);
+impl<C: BlockCipher, S: KeySource<C>, R: Rule<C>> Level<C, S, R> {
+    // Its numbers, where it has a key of that number.
+    fn step_to(&self, number: u32) -> Result<Step, MoveFault>
+        ensures { MatchResult result
+            (λ t. (self.now.step ≡ Ok t) × (number < t.count))
+            (λ f. (move_refusal f).given (⟦<Level<C, S, R> as KeySource<C>>⟧.stack self.now) number) }
+    {
+        self.step
+            .ok()
+            .filter(|step| number < step.count)
+            .ok_or(MoveFault::PastCount)
+    }
+
+    // Makes a level on a source. What is refused is a source all the same, without keys, and its note says why.
+    pub fn stand(below: S, rule: R) -> Level<C, S, R>
+        ensures stack { ⟦<Level<C, S, R> as KeySource<C>>⟧.stack result ≡ stood (R.Rule.kind rule) (not (is_some (S.KeySource.stands below))) (S.KeySource.stack below) }
+        ensures stands { ⟦<Level<C, S, R> as KeySource<C>>⟧.stands result ≡ None }
+        ensures limit { levels_of (S.KeySource.stack below) ≡ 256 → AtLimit (S.KeySource.stack below) (⟦<Level<C, S, R> as KeySource<C>>⟧.stack result) }
+    {
+        let step = Step::settle::<C, S, R>(&below, &rule);
         Level {
             below,
             maker: Maker::new(rule),
             step,
-            note,
             position: None,
         }
     }

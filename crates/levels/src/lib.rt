@@ -7,4 +7,4 @@ mod makings;
 mod step;
 
 pub use level::Level;
-pub use makings::{OnSource, branch, chain, fan, master, serial};
+pub use makings::{branch, chain, fan, master, serial};

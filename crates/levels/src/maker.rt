@@ -1,21 +1,28 @@
 // The making of a level's keys.
-ghost use Rattle.std.specs.Prelude.{◌≡◌, ℕ, suc, ◌+◌, ◌-◌, ◌<◌, ◌≤◌, take, Some, None, Option, MatchOption};
+ghost use Rattle.std.specs.Prelude.{◌≡◌, ℕ, suc, ◌+◌, ◌-◌, ◌<◌, ◌≤◌, ◌++◌, take, drop, Some, None, Option, MatchOption};
 ghost use Rattle.rules.specs.Levels.{renews_own};
 ghost use Rattle.rules.specs.InnerKeys.{given};
 ghost use Rattle.keys.specs.Moving.{capped};
-ghost use Rattle.levels.specs.LevelState.{Advanced, first_of};
+ghost use Rattle.levels.specs.Advanced.{Advanced};
+ghost use Rattle.levels.specs.Onward.{first_of};
 
 use cipher::{BlockCipher, KeyBuffer};
 use rules::Rule;
 use std::marker::PhantomData;
 
-// Makes a level's keys, and counts them. The inner key has been replaced `stage` times since the key below.
+// An inner key, which has been replaced `stage` times since the key below.
+#[derive(Clone, Copy)]
+pub(crate) struct Inner {
+    pub key: KeyBuffer,
+    pub stage: u32,
+}
+
+// Makes a level's keys, and counts them.
 #[derive(Drop)]
 pub(crate) struct Maker<C: BlockCipher, R: Rule<C>> {
     pub rule: R,
     pub cipher: PhantomData<C>,
-    pub inner: KeyBuffer,
-    pub stage: u32,
+    pub inner: Inner,
     pub current: KeyBuffer,
     pub made: u32,
 }
@@ -28,8 +35,10 @@ impl<C: BlockCipher, R: Rule<C>> Maker<C, R> {
         Maker {
             rule,
             cipher: PhantomData,
-            inner: [0; 32],
-            stage: 0,
+            inner: Inner {
+                key: [0; 32],
+                stage: 0,
+            },
             current: [0; 32],
             made: 0,
         }
@@ -39,12 +48,12 @@ impl<C: BlockCipher, R: Rule<C>> Maker<C, R> {
     fn advance(&mut self, remainder: u32)
         ensures rule { self.new.rule ≡ self.old.rule }
         ensures made { self.new.made ≡ self.old.made }
-        ensures inner { Advanced C.BlockCipher.model (R.Rule.kind self.old.rule) remainder remainder self.old.stage self.old.inner self.new.stage self.new.inner }
+        ensures inner { Advanced C.BlockCipher.model (R.Rule.kind self.old.rule) remainder remainder self.old.inner self.new.inner }
     {
         let stage = self.rule.stage(remainder);
-        while self.stage < stage {
-            self.inner = self.rule.step(&self.inner);
-            self.stage += 1;
+        while self.inner.stage < stage {
+            self.inner.key = self.rule.step(&self.inner.key);
+            self.inner.stage += 1;
         }
     }
 
@@ -52,11 +61,11 @@ impl<C: BlockCipher, R: Rule<C>> Maker<C, R> {
     fn make(&mut self, remainder: u32)
         ensures rule { self.new.rule ≡ self.old.rule }
         ensures made { self.new.made ≡ capped (self.old.made + 1) }
-        ensures inner { Advanced C.BlockCipher.model (R.Rule.kind self.old.rule) remainder remainder self.old.stage self.old.inner self.new.stage self.new.inner }
-        ensures key { take C.BlockCipher.model.key self.new.current ≡ given C.BlockCipher.model (R.Rule.kind self.old.rule) (take C.BlockCipher.model.key self.new.inner) remainder }
+        ensures inner { Advanced C.BlockCipher.model (R.Rule.kind self.old.rule) remainder remainder self.old.inner self.new.inner }
+        ensures key { take C.BlockCipher.model.key self.new.current ≡ given C.BlockCipher.model (R.Rule.kind self.old.rule) (take C.BlockCipher.model.key self.new.inner.key) remainder }
     {
         self.advance(remainder);
-        self.current = self.rule.key(&self.inner, remainder);
+        self.current = self.rule.key(&self.inner.key, remainder);
         self.made = self.made.saturating_add(1);
     }
 
@@ -65,8 +74,8 @@ impl<C: BlockCipher, R: Rule<C>> Maker<C, R> {
         requires { first ≤ last }
         ensures rule { self.new.rule ≡ self.old.rule }
         ensures made { self.new.made ≡ capped (self.old.made + (suc last - first)) }
-        ensures inner { Advanced C.BlockCipher.model (R.Rule.kind self.old.rule) first last self.old.stage self.old.inner self.new.stage self.new.inner }
-        ensures key { take C.BlockCipher.model.key self.new.current ≡ given C.BlockCipher.model (R.Rule.kind self.old.rule) (take C.BlockCipher.model.key self.new.inner) last }
+        ensures inner { Advanced C.BlockCipher.model (R.Rule.kind self.old.rule) first last self.old.inner self.new.inner }
+        ensures key { take C.BlockCipher.model.key self.new.current ≡ given C.BlockCipher.model (R.Rule.kind self.old.rule) (take C.BlockCipher.model.key self.new.inner.key) last }
     {
         for remainder in first..last {
             self.make(remainder);
@@ -82,12 +91,14 @@ impl<C: BlockCipher, R: Rule<C>> Maker<C, R> {
         ensures made { self.new.made ≡ self.old.made }
         ensures first { result ≡ first_of (renews_own (R.Rule.kind self.old.rule)) onward last }
         ensures inner { MatchOption onward
-            ((self.new.inner ≡ parent.now) × (self.new.stage ≡ 0))
-            (λ _. (self.new.inner ≡ self.old.inner) × (self.new.stage ≡ self.old.stage)) }
+            ((self.new.inner.key ≡ parent.now) × (self.new.inner.stage ≡ 0))
+            (λ _. self.new.inner ≡ self.old.inner) }
     {
         let Some(from) = onward else {
-            self.inner = *parent;
-            self.stage = 0;
+            self.inner = Inner {
+                key: *parent,
+                stage: 0,
+            };
             return if self.rule.renews_own_keys() { 0 } else { last };
         };
         if self.rule.renews_own_keys() {
@@ -95,5 +106,13 @@ impl<C: BlockCipher, R: Rule<C>> Maker<C, R> {
         } else {
             last
         }
+    }
+
+    // Writes the current key.
+    pub(crate) fn hand_out(&self, key: &mut KeyBuffer)
+        ensures { key.new ≡ take C.BlockCipher.model.key self.now.current ++ drop C.BlockCipher.model.key key.old }
+    {
+        let n = C::key_len();
+        key[..n].copy_from_slice(&self.current[..n]);
     }
 }

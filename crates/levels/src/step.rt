@@ -1,11 +1,11 @@
 // What each level keeps in numbers.
-ghost use Rattle.std.specs.Prelude.{◌≡◌, ℕ, ◌*◌, ◌<◌, ◌≤◌};
-ghost use Rattle.rules.specs.Levels.{quota as quota_of};
-ghost use Rattle.levels.specs.Making.{barred_by};
-ghost use Rattle.levels.specs.LevelState.{Planned, Settled};
+ghost use Rattle.std.specs.Prelude.{◌≡◌, ℕ, ◌%◌, ◌<◌, ◌≤◌, not, is_some, Some, IfOk};
+ghost use Rattle.keys.specs.Sources.{Facts};
+ghost use Rattle.levels.specs.Making.{barred, refused_by, Planned};
+ghost use Rattle.levels.specs.Onward.{onward as onward_from};
 
 use cipher::BlockCipher;
-use keys::{MakingFault, Note};
+use keys::{KeySource, MakingFault, Refusal};
 use rules::Rule;
 
 pub(crate) const MOST_LEVELS: u32 = 256;
@@ -24,70 +24,57 @@ pub(crate) struct Step {
     ghost below: { remainder < quota },
 }
 
-// What the making of a level finds in the source below.
-#[derive(Clone, Copy)]
-pub(crate) struct Ground {
-    pub fresh: bool,
-    pub renewed: bool,
-    pub levels: u32,
-    pub count: u32,
-    pub note: Note,
-    ghost few: { count ≤ 16777216 },
-}
-
 impl Step {
-    // The numbers of a level by that rule, or the first refusal that applies.
-    fn plan<C: BlockCipher, R: Rule<C>>(rule: &R, ground: Ground) -> Result<Step, MakingFault>
-        ensures { Planned (barred_by (R.Rule.kind rule.now) ground.fresh ground.renewed ground.levels ground.count) result
-            (λ s. (s.count ≡ ground.count * quota_of (R.Rule.kind rule.now)) × (s.quota ≡ quota_of (R.Rule.kind rule.now))) }
+    ghost use Rattle.levels.specs.Numbers.{Numbers};
+
+    // The numbers of a level by that rule on a source, or the first refusal that applies.
+    fn plan<C: BlockCipher, S: KeySource<C>, R: Rule<C>>(
+        below: &S,
+        rule: &R,
+    ) -> Result<Step, MakingFault>
+        ensures cases { Planned (barred (R.Rule.kind rule.now) (not (is_some (S.KeySource.stands below.now))) (S.KeySource.stack below.now)) result (Numbers (R.Rule.kind rule.now) (S.KeySource.stack below.now)) }
+        ensures facts { IfOk result (λ _. Facts (S.KeySource.stack below.now) (S.KeySource.stands below.now) (S.KeySource.ledgers below.now)) }
     {
         if !rule.in_range() {
             return Err(MakingFault::OutOfRange);
         }
-        if !ground.fresh {
+        if below.position().is_some() {
             return Err(MakingFault::NotFresh);
         }
-        if rule.renews() && ground.renewed {
+        if rule.renews() && below.renews_own_keys() {
             return Err(MakingFault::KeysRenewed);
         }
-        let quota = rule.quota();
-        if ground.levels >= MOST_LEVELS || ground.count as u64 * quota as u64 > MOST_KEYS {
+        let (count, quota) = (below.count(), rule.quota());
+        if below.levels() >= MOST_LEVELS || count as u64 * quota as u64 > MOST_KEYS {
             return Err(MakingFault::TooLarge);
         }
         Ok(Step {
-            count: ground.count * quota,
+            count: count * quota,
             quota,
             remainder: 0,
         })
     }
 
-    // The numbers and the note that the making of a level leaves.
-    pub(crate) fn settle<C: BlockCipher, R: Rule<C>>(rule: &R, ground: Ground) -> (Step, Note)
-        ensures { Settled (R.Rule.kind rule.now) ground.fresh ground.renewed ground.levels ground.count ground.note result.0.count result.0.quota result.1 }
+    // The numbers of a level by that rule on a source, or why it is not made: a refusal of the source is passed on.
+    pub(crate) fn settle<C: BlockCipher, S: KeySource<C>, R: Rule<C>>(
+        below: &S,
+        rule: &R,
+    ) -> Result<Step, Refusal>
+        ensures cases { Planned (refused_by (R.Rule.kind rule.now) (not (is_some (S.KeySource.stands below.now))) (S.KeySource.stack below.now)) result (Numbers (R.Rule.kind rule.now) (S.KeySource.stack below.now)) }
+        ensures facts { IfOk result (λ _. Facts (S.KeySource.stack below.now) (S.KeySource.stands below.now) (S.KeySource.ledgers below.now)) }
     {
-        let none = Step {
-            count: 0,
-            quota: 1,
-            remainder: 0,
-        };
-        if ground.note.number != 0 {
-            return (none, ground.note);
-        }
-        match Step::plan::<C, R>(rule, ground) {
-            Ok(step) => (
-                step,
-                Note {
-                    level: ground.levels,
-                    number: 0,
-                },
-            ),
-            Err(fault) => (
-                none,
-                Note {
-                    level: ground.levels.min(255),
-                    number: fault.number(),
-                },
-            ),
-        }
+        below.note()?;
+        let level = below.levels().min(MOST_LEVELS - 1);
+        Step::plan::<C, S, R>(below, rule).map_err(|fault| Refusal { level, fault })
+    }
+
+    // The remainder to go on from, where the level stands under the same key below and before the number.
+    pub(crate) fn onward(self, position: Option<u32>, number: u32) -> Option<u32>
+        ensures value { result ≡ onward_from self.quota position self.remainder number }
+        ensures before { (k : ℕ) → result ≡ Some k → k < number % self.quota }
+    {
+        let at = position?;
+        let same = at / self.quota == number / self.quota;
+        (same && self.remainder < number % self.quota).then_some(self.remainder)
     }
 }

@@ -8,8 +8,8 @@ ghost use Rattle.stacks.specs.Keys.{KeyGiven};
 use crate::plan::Plan;
 use crate::refusal::KeyRefusal;
 use cipher::{BlockCipher, KeyBuffer};
-use keys::{FromKey, KeySource, Root};
-use levels::{Level, OnSource};
+use keys::{KeySource, Root};
+use levels::Level;
 use rules::{Branch, Chain, Fan, Master, Rule, Serial};
 
 const AXIS_PERIOD: u32 = 16;
@@ -24,12 +24,9 @@ fn give<C: BlockCipher, S: KeySource<C>>(
     number: u32,
     out: &mut KeyBuffer,
 ) -> Result<(), KeyRefusal>
-    ensures { S.KeySource.lawful source → KeyGiven C.BlockCipher.model (S.KeySource.stack source) number out.old out.new result }
+    ensures { KeyGiven C.BlockCipher.model (S.KeySource.stack source) number out.old out.new result }
 {
-    let note = source.note();
-    if note.number != 0 {
-        return Err(KeyRefusal::Stack(note));
-    }
+    source.note()?;
     source.move_to(number, out)?;
     Ok(())
 }
@@ -41,7 +38,7 @@ fn on_one<C: BlockCipher, S: KeySource<C>, T: Rule<C>>(
     number: u32,
     out: &mut KeyBuffer,
 ) -> Result<(), KeyRefusal>
-    ensures { S.KeySource.lawful below → S.KeySource.stands below ≡ None → KeyGiven C.BlockCipher.model (built (T.Rule.kind top ∷ []) (S.KeySource.stack below)) number out.old out.new result }
+    ensures { S.KeySource.stands below ≡ None → KeyGiven C.BlockCipher.model (built (T.Rule.kind top ∷ []) (S.KeySource.stack below)) number out.old out.new result }
 {
     give::<C, Level<C, S, T>>(Level::stand(below, top), number, out)
 }
@@ -53,7 +50,7 @@ fn on_two<C: BlockCipher, S: KeySource<C>, P: Rule<C>, T: Rule<C>>(
     number: u32,
     out: &mut KeyBuffer,
 ) -> Result<(), KeyRefusal>
-    ensures { S.KeySource.lawful below → S.KeySource.stands below ≡ None → KeyGiven C.BlockCipher.model (built (P.Rule.kind low ∷ T.Rule.kind top ∷ []) (S.KeySource.stack below)) number out.old out.new result }
+    ensures { S.KeySource.stands below ≡ None → KeyGiven C.BlockCipher.model (built (P.Rule.kind low ∷ T.Rule.kind top ∷ []) (S.KeySource.stack below)) number out.old out.new result }
 {
     on_one::<C, Level<C, S, P>, T>(Level::stand(below, low), top, number, out)
 }
@@ -66,7 +63,7 @@ fn on_three<C: BlockCipher, S: KeySource<C>, Q: Rule<C>, P: Rule<C>, T: Rule<C>>
     number: u32,
     out: &mut KeyBuffer,
 ) -> Result<(), KeyRefusal>
-    ensures { S.KeySource.lawful below → S.KeySource.stands below ≡ None → KeyGiven C.BlockCipher.model (built (Q.Rule.kind low ∷ P.Rule.kind middle ∷ T.Rule.kind top ∷ []) (S.KeySource.stack below)) number out.old out.new result }
+    ensures { S.KeySource.stands below ≡ None → KeyGiven C.BlockCipher.model (built (Q.Rule.kind low ∷ P.Rule.kind middle ∷ T.Rule.kind top ∷ []) (S.KeySource.stack below)) number out.old out.new result }
 {
     on_two::<C, Level<C, S, Q>, P, T>(Level::stand(below, low), middle, top, number, out)
 }
@@ -80,7 +77,7 @@ fn on_four<C: BlockCipher, S: KeySource<C>, R: Rule<C>, Q: Rule<C>, P: Rule<C>, 
     number: u32,
     out: &mut KeyBuffer,
 ) -> Result<(), KeyRefusal>
-    ensures { S.KeySource.lawful below → S.KeySource.stands below ≡ None → KeyGiven C.BlockCipher.model (built (R.Rule.kind low ∷ Q.Rule.kind second ∷ P.Rule.kind third ∷ T.Rule.kind top ∷ []) (S.KeySource.stack below)) number out.old out.new result }
+    ensures { S.KeySource.stands below ≡ None → KeyGiven C.BlockCipher.model (built (R.Rule.kind low ∷ Q.Rule.kind second ∷ P.Rule.kind third ∷ T.Rule.kind top ∷ []) (S.KeySource.stack below)) number out.old out.new result }
 {
     on_three::<C, Level<C, S, R>, Q, P, T>(
         Level::stand(below, low),

@@ -18,20 +18,19 @@ loop-number-preserved g c =
     let facts = c.count.ensures in (
       low.stack ∙ v.0,
       c.move_to.array_long,
-      λ h p.
-          let w = v.2 h p in
-          let n : count (S.stack e) ≤ 16777216 = omega (arith, facts.few, facts.value h) in
+      λ p.
+          let w = v.2 p in
+          let n : count (S.stack e) ≤ 16777216 = omega (arith, facts.few, facts.value) in
           let moved : Moved C (S.stack e) (S.stands now) c.loop-number.number (S.ledgers now) (S.ledgers c.move_to.new.self) (S.stands c.move_to.new.self) c.loop-number.key c.move_to.new.key =
-          subst (λ s. Moved C s (S.stands now) c.loop-number.number (S.ledgers now) (S.ledgers c.move_to.new.self) (S.stands c.move_to.new.self) c.loop-number.key c.move_to.new.key) v.0 (low.cases w.0) in
+          subst (λ s. Moved C s (S.stands now) c.loop-number.number (S.ledgers now) (S.ledgers c.move_to.new.self) (S.stands c.move_to.new.self) c.loop-number.key c.move_to.new.key) v.0 (low.cases) in
           let lt = moved.within in (
-            low.lawful w.0,
-            subst (λ k. Walked (quotas (S.stack e)) k (S.stands c.move_to.new.self) (S.ledgers c.move_to.new.self)) (sym (add-one _)) (walked_more n ((facts.facts h).accepted (omega arith)) _ moved w.1),
-            behind C.key _ c.loop-number.key c.move_to.new.key moved.key_is (omega (arith, c.move_to.array_long, v.1)) (let k = key_within C g.met.C.BlockCipher.laws in omega (arith, v.1)) ∙ w.2,
+            subst (λ k. Walked (quotas (S.stack e)) k (S.stands c.move_to.new.self) (S.ledgers c.move_to.new.self)) (sym (add-one _)) (walked_more n (facts.facts.accepted (omega arith)) _ moved w.0),
+            behind C.key _ c.loop-number.key c.move_to.new.key moved.key_is (omega (arith, c.move_to.array_long, v.1)) (let k = key_within C g.met.C.BlockCipher.laws in omega (arith, v.1)) ∙ w.1,
           ),
     )
 
 pub returns : goal.returns
-returns g c = λ h p.
+returns g c = λ p.
     let S = g.S.KeySource in
     let C = g.C.BlockCipher.model in
     let e = c.args.source.now in
@@ -40,18 +39,18 @@ returns g c = λ h p.
     let out = c.move_to-2.new.key in
     let held = c.loop-number.key in
     let v = c.loop-number.invariant in
-    let w = v.2 h p in
+    let w = v.2 p in
     let facts = c.count.ensures in
-    let lt : c.args.last < count (S.stack e) = omega (arith, facts.value h) in
-    let n : count (S.stack e) ≤ 16777216 = omega (arith, facts.few, facts.value h) in
+    let lt : c.args.last < count (S.stack e) = omega (arith, facts.value) in
+    let n : count (S.stack e) ≤ 16777216 = omega (arith, facts.few, facts.value) in
     let at : c.loop-number.number ≡ c.args.last = omega arith in
     let counted = ap count v.0 in
-    MatchResult-weaker c.move_to-2.result (c.move_to-2.ensures.cases w.0)
+    MatchResult-weaker c.move_to-2.result (c.move_to-2.ensures.cases)
     (λ _ m.
     let moved : Moved C (S.stack e) (S.stands now) c.args.last (S.ledgers now) (S.ledgers end) (S.stands end) held out =
     subst (λ s. Moved C s (S.stands now) c.args.last (S.ledgers now) (S.ledgers end) (S.stands end) held out) v.0 m in (
       lt,
-      moved.key_is ∙ ap (λ x. key C (S.stack e) c.args.last ++ x) w.2,
-      walked_more n ((facts.facts h).accepted (omega arith)) c.args.last moved (subst (λ k. Walked (quotas (S.stack e)) k (S.stands now) (S.ledgers now)) at w.1),
+      moved.key_is ∙ ap (λ x. key C (S.stack e) c.args.last ++ x) w.1,
+      walked_more n (facts.facts.accepted (omega arith)) c.args.last moved (subst (λ k. Walked (quotas (S.stack e)) k (S.stands now) (S.ledgers now)) at w.0),
     ))
     (λ f k. absurd (not_past (S.stack now) f (omega arith) k.past))

@@ -9,4 +9,4 @@ invariant-loop-number g l =
     let e = l.initial.source in
     let k = g.C.BlockCipher.model.key in
     (S.stack l.source ≡ S.stack e) × (length l.key ≡ 32)
-    × (S.lawful e → S.stands e ≡ None → S.lawful l.source × Walked (quotas (S.stack e)) l.number (S.stands l.source) (S.ledgers l.source) × (drop k l.key ≡ drop k l.initial.key))
+    × (S.stands e ≡ None → Walked (quotas (S.stack e)) l.number (S.stands l.source) (S.ledgers l.source) × (drop k l.key ≡ drop k l.initial.key))

@@ -10,4 +10,4 @@ loop-remainder-preserved g c =
     let v = c.loop-remainder.invariant in
     let m = c.make.ensures in
     let k = g.R.Rule.kind in
-    (m.rule ∙ v.0, omega (arith, m.made, v.1), λ p h le i. made_more g.C.BlockCipher.model (k c.args.self.now.rule) p c.loop-remainder.self.inner c.make.new.self.inner c.loop-remainder.self.stage c.make.new.self.stage c.loop-remainder.remainder (ap k v.0) m.inner h (v.2 p h le i))
+    (m.rule ∙ v.0, omega (arith, m.made, v.1), λ p h le i. made_more g.C.BlockCipher.model (k c.args.self.now.rule) p c.loop-remainder.self.inner c.make.new.self.inner c.loop-remainder.remainder (ap k v.0) m.inner h (v.2 p h le i))

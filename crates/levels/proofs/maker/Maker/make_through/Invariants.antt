@@ -2,7 +2,7 @@ use Rattle.std.proofs.Common.{◌≡◌, ℕ, ◌+◌, ◌-◌, ◌≤◌, true,
 use Rattle.rules.specs.Levels.{ranged}
 use Rattle.rules.specs.InnerKeys.{stage}
 use Rattle.keys.specs.Moving.{capped}
-use Rattle.levels.specs.LevelState.{Inner}
+use Rattle.levels.specs.Advanced.{IsInner}
 use Rattle.levels.proofs.maker.Maker.make_through.Given as goal
 
 abbrev pub invariant-loop-remainder : goal.invariant-loop-remainder
@@ -11,4 +11,4 @@ invariant-loop-remainder g l =
     let c = g.C.BlockCipher.model in
     let k = g.R.Rule.kind e.rule in
     (l.self.rule ≡ e.rule) × (capped (l.self.made + 1) ≡ capped (e.made + (l.remainder + 1 - l.first))) ×
-    ((p : List ℕ) → ranged k ≡ true → e.stage ≤ stage k l.first → Inner c k p e.stage e.inner → (l.self.stage ≤ stage k l.remainder) × Inner c k p l.self.stage l.self.inner)
+    ((p : List ℕ) → ranged k ≡ true → e.inner.stage ≤ stage k l.first → IsInner c k p e.inner → (l.self.inner.stage ≤ stage k l.remainder) × IsInner c k p l.self.inner)
