@@ -1,6 +1,7 @@
 -- The refusals of a making: for each its number, and when it applies. Assumes nothing.
 use Rattle.std.specs.Prelude.{ℕ, ◌*◌, Bool, false, not, ◌&&◌, nat_le, nat_lt, Ok, Err, Result}
-use Rattle.rules.specs.Levels.{Level, quota, renews, ranged}
+use Rattle.rules.specs.declared.kind.Kind.{Kind}
+use Rattle.rules.specs.Levels.{quota, renews, ranged}
 use Rattle.keys.specs.declared.refusals.MakingFault.{MakingFault}
 use Rattle.keys.specs.declared.refusals.MakingFault.TheVariants.{KeyLength, OutOfRange, NotFresh, KeysRenewed, TooLarge}
 use Rattle.keys.specs.declared.refusals.Refusal.{Refusal}
@@ -10,7 +11,7 @@ pub data Attempt : Type 0 where
   -- a bottom out of a buffer that holds the keys that it should, or not
   of_buffer : (fits : Bool) → Attempt
   -- a level on a source that is fresh or not, renews its own keys or not, and has so many levels and keys
-  on_source : Level → (fresh renewed : Bool) → (levels count : ℕ) → Attempt
+  on_source : Kind → (fresh renewed : Bool) → (levels count : ℕ) → Attempt
 
 abbrev pub wrong_keys : Attempt → Bool
 wrong_keys (of_buffer fits) = not fits

@@ -3,7 +3,8 @@
 use Rattle.std.specs.Prelude.{◌≡◌, ℕ, ◌*◌, ◌/◌, ◌%◌, ◌<◌, ◌≤◌, Bool, true, false, cond, List, [], ◌∷◌, length, Some, None, Ok, Err, Option, Result, ◌==◌}
 use Rattle.std.specs.Option.{unwrap_or}
 use Rattle.cipher.specs.Model.{Model}
-use Rattle.rules.specs.Levels.{Level, quota, renews, renews_own, ranged}
+use Rattle.rules.specs.declared.kind.Kind.{Kind}
+use Rattle.rules.specs.Levels.{quota, renews, renews_own, ranged}
 use Rattle.rules.specs.LevelKeys.{level_key}
 use Rattle.keys.specs.declared.refusals.Refusal.{Refusal}
 
@@ -11,7 +12,7 @@ pub data Stack : Type 0 where
   -- so many keys, these, and whether the renewal constants are enciphered under them too
   bottom : (count : ℕ) → (ℕ → List ℕ) → Bool → Stack
   -- a level on a stack
-  on : Level → Stack → Stack
+  on : Kind → Stack → Stack
   -- what a refused making leaves: why, and the levels' quotas, the top level's first
   refused : Refusal → (quotas : List ℕ) → Stack
 

@@ -2,7 +2,8 @@
 use Rattle.std.proofs.Common.{◌≡◌, ℕ, ◌*◌, ◌<◌, ◌≤◌, Bool, true, false, cond, not, ◌&&◌, ltb, leb, List, ◌∷◌, length, is_some, IfOk, IfSome, Some, None, Ok, Err, Option, Result, sym, refl, ap, ◌∙◌, mul-pos, arith}
 use Rattle.std.proofs.lemmas.Bool.Decides.{nat_tests}
 use Rattle.cipher.specs.Model.{Model}
-use Rattle.rules.specs.Levels.{Level, quota, renews, ranged}
+use Rattle.rules.specs.declared.kind.Kind.{Kind}
+use Rattle.rules.specs.Levels.{quota, renews, ranged}
 use Rattle.rules.proofs.Inner.{quota_ranged}
 use Rattle.keys.specs.declared.refusals.MakingFault.{MakingFault}
 use Rattle.keys.specs.declared.refusals.MakingFault.TheVariants.{KeyLength, OutOfRange, NotFresh, KeysRenewed, TooLarge}
@@ -26,14 +27,14 @@ not_false : (b : Bool) → not b ≡ false → b ≡ true
 not_false true e = refl
 not_false false e = sym e
 
-record Clear (l : Level) (fresh renewed : Bool) (n m : ℕ) : Type 0 where
+record Clear (l : Kind) (fresh renewed : Bool) (n m : ℕ) : Type 0 where
   is_in_range : ranged l ≡ true
   is_fresh : fresh ≡ true
   unrenewed : renews l && renewed ≡ false
   room : n < 256
   few : m * quota l ≤ 16777216
 
-clear : (l : Level) (fresh renewed : Bool) (n m : ℕ) → barred_by l fresh renewed n m ≡ None → Clear l fresh renewed n m
+clear : (l : Kind) (fresh renewed : Bool) (n m : ℕ) → barred_by l fresh renewed n m ≡ None → Clear l fresh renewed n m
 clear l fresh renewed n m e =
     let a = when_none (not (ranged l)) OutOfRange _ e in
     let b = when_none (not fresh) NotFresh _ a.1 in
@@ -76,7 +77,7 @@ nowhere (Some x) e = cc
 
 -- a level that is made over a source
 
-module _ (c : Model) (s : Stack) (below : Option ℕ) (low : ℕ → ℕ) (l : Level) (inner : Inner) (current : List ℕ) where
+module _ {T : Type 0} (c : Model) (s : Stack) (below : Option ℕ) (low : ℕ → ℕ) (l : Kind) (inner : Inner T) (current : List ℕ) where
   made_stands : (t : Step) → Facts s below low → refused_by l (not (is_some below)) s ≡ None → t.count ≡ count s * quota l → t.quota ≡ quota l
       → Stands c s below low l t None 0 inner current
   made_stands t facts e m q =
@@ -98,14 +99,14 @@ module _ (c : Model) (s : Stack) (below : Option ℕ) (low : ℕ → ℕ) (l : L
   made_sits (Ok t) facts h = made_stands t facts h.0 h.1.0 h.1.1
   made_sits (Err x) facts h = refl
 
-pub made_stack : (l : Level) (fresh : Bool) (s : Stack) (P : Step → Type 0) (r : Result Step Refusal) → Planned (refused_by l fresh s) r P → stack_of r l s ≡ stood l fresh s
+pub made_stack : (l : Kind) (fresh : Bool) (s : Stack) (P : Step → Type 0) (r : Result Step Refusal) → Planned (refused_by l fresh s) r P → stack_of r l s ≡ stood l fresh s
 unfolding stood
 made_stack l fresh s P (Ok t) h = ap (λ b. left_by b l s) (sym h.0)
 made_stack l fresh s P (Err x) h = ap (λ b. left_by b l s) (sym h)
 
 -- the limit of 256 levels
 
-left_at_limit : (l : Level) (fresh : Bool) (s : Stack) (x : Result ℕ Refusal) (b : Option MakingFault) → levels s ≡ 256 → note s ≡ x → barred l fresh s ≡ b
+left_at_limit : (l : Kind) (fresh : Bool) (s : Stack) (x : Result ℕ Refusal) (b : Option MakingFault) → levels s ≡ 256 → note s ≡ x → barred l fresh s ≡ b
     → AtLimit s (left_by (passed_on x b (levels s)) l s)
 left_at_limit l fresh s (Err x) b e n h =
     let full : ltb (levels s) 256 ≡ false = grind (arith, nat_tests) in
@@ -123,18 +124,18 @@ left_at_limit l fresh s (Ok own) (Some f) e n h =
     }
 left_at_limit l fresh s (Ok own) None e n h = absurd (let r = (clear l fresh (renews_keys s) (levels s) (count s) h).room in omega arith)
 
-pub at_limit : (l : Level) (fresh : Bool) (s : Stack) → levels s ≡ 256 → AtLimit s (stood l fresh s)
+pub at_limit : (l : Kind) (fresh : Bool) (s : Stack) → levels s ≡ 256 → AtLimit s (stood l fresh s)
 unfolding stood
 at_limit l fresh s e = left_at_limit l fresh s (note s) (barred l fresh s) e refl refl
 
 -- what holds of a level in every state
 
-within_of : (c : Model) (s : Stack) (l : Level) (t : Step) (inner : Inner) (current : List ℕ) (at : Option ℕ) → IfSome at (Here c s l t inner current)
+within_of : {T : Type 0} (c : Model) (s : Stack) (l : Kind) (t : Step) (inner : Inner T) (current : List ℕ) (at : Option ℕ) → IfSome at (Here c s l t inner current)
     → (i : ℕ) → at ≡ Some i → i < t.count
 within_of c s l t inner current None h i e = cc
 within_of c s l t inner current (Some b) h i e = let w = h.within in let same : b ≡ i = cc in omega arith
 
-pub facts_of : (c : Model) (s : Stack) (below : Option ℕ) (low : ℕ → ℕ) (l : Level) (r : Result Step Refusal) (at : Option ℕ) (made : ℕ) (inner : Inner) (current : List ℕ)
+pub facts_of : {T : Type 0} (c : Model) (s : Stack) (below : Option ℕ) (low : ℕ → ℕ) (l : Kind) (r : Result Step Refusal) (at : Option ℕ) (made : ℕ) (inner : Inner T) (current : List ℕ)
     → Sits c s below low l r at made inner current → Facts (stack_of r l s) at (ledgers_of r (levels s) made low)
 facts_of c s below low l (Ok t) at made inner current h = record {
   accepted = λ _. h.accepted;

@@ -6,7 +6,8 @@ use Rattle.std.proofs.lemmas.Bool.Decides.{nat_tests, eqb_tells, leb_tells}
 use Rattle.cipher.specs.Model.{Model, Laws}
 use Rattle.cipher.proofs.Joining.{front}
 use Rattle.cipher.proofs.Sizes.{key_within}
-use Rattle.rules.specs.Levels.{Level, renews_own}
+use Rattle.rules.specs.declared.kind.Kind.{Kind}
+use Rattle.rules.specs.Levels.{renews_own}
 use Rattle.rules.specs.LevelKeys.{level_key}
 use Rattle.rules.specs.InnerKeys.{stage, given, inner_key}
 use Rattle.rules.proofs.Inner.{by_inner, stage_rises}
@@ -84,9 +85,9 @@ first_high : (own : Bool) (r last : ℕ) → r < last → r ≤ first_of own (So
 first_high false r last h = omega arith
 first_high true r last h = omega arith
 
-module _ (c : Model) (s : Stack) (l : Level) (t : Step) (inner : Inner) (current : List ℕ) (i : ℕ) (parent : List ℕ) (x : Inner) (first : ℕ) where
-  begun_anew : take c.key parent ≡ key c s (i / t.quota) → (x.key ≡ parent) × (x.stage ≡ 0) → (x.stage ≤ stage l first) × IsInner c l (key c s (i / t.quota)) x
-  begun_anew p h = (omega (arith, h.1), ap (take c.key) h.0 ∙ p ∙ ap (inner_key c l (key c s (i / t.quota))) (sym h.1))
+module _ {T : Type 0} (c : Model) (s : Stack) (l : Kind) (t : Step) (inner : Inner T) (current : List ℕ) (i : ℕ) (parent : List ℕ) (x : Inner T) (first : ℕ) where
+  begun_anew : parent ≡ key c s (i / t.quota) → (x.key ≡ parent) × (x.stage ≡ 0) → (x.stage ≤ stage l first) × IsInner c l (key c s (i / t.quota)) x
+  begun_anew p h = (omega (arith, h.1), h.0 ∙ p ∙ ap (inner_key c l (key c s (i / t.quota))) (sym h.1))
 
   begun_on : (own : Bool) (b : ℕ) → Here c s l t inner current b → b / t.quota ≡ i / t.quota → t.remainder < i % t.quota
       → first ≡ first_of own (Some t.remainder) (i % t.quota) → x ≡ inner → (x.stage ≤ stage l first) × IsInner c l (key c s (i / t.quota)) x
@@ -97,7 +98,7 @@ module _ (c : Model) (s : Stack) (l : Level) (t : Step) (inner : Inner) (current
       subst (λ y. (y.stage ≤ stage l first) × IsInner c l (key c s (i / t.quota)) y) (sym e)
       (omega arith, h.inner_is ∙ ap (λ z. inner_key c l (key c s z) inner.stage) same)
 
-  begun : (own : Bool) (at : Option ℕ) → IfSome at (Here c s l t inner current) → take c.key parent ≡ key c s (i / t.quota)
+  begun : (own : Bool) (at : Option ℕ) → IfSome at (Here c s l t inner current) → parent ≡ key c s (i / t.quota)
       → first ≡ first_of own (onward t.quota at t.remainder i) (i % t.quota)
       → MatchOption (onward t.quota at t.remainder i) ((x.key ≡ parent) × (x.stage ≡ 0)) (λ _. x ≡ inner)
       → (x.stage ≤ stage l first) × IsInner c l (key c s (i / t.quota)) x
@@ -121,13 +122,13 @@ module _ (c : Model) (s : Stack) (l : Level) (t : Step) (inner : Inner) (current
             begun_anew p (subst (λ y. MatchOption (cond y (Some r) None) A B) no k)
       ]
 
-remainder_at : (c : Model) (s : Stack) (l : Level) (t : Step) (inner : Inner) (current : List ℕ) (at : Option ℕ)
+remainder_at : {T : Type 0} (c : Model) (s : Stack) (l : Kind) (t : Step) (inner : Inner T) (current : List ℕ) (at : Option ℕ)
     → IfSome at (Here c s l t inner current) → IfSome at (λ b. t.remainder ≡ b % t.quota)
 remainder_at c s l t inner current None h = tt
 remainder_at c s l t inner current (Some b) h = h.remainder_is
 
 -- a level whose numbers are t
-pub stands_by : {c : Model} {s : Stack} {below : Option ℕ} {low : ℕ → ℕ} {l : Level} {at : Option ℕ} {made : ℕ} {inner : Inner} {current : List ℕ} (r : Result Step Refusal) (t : Step)
+pub stands_by : {T : Type 0} {c : Model} {s : Stack} {below : Option ℕ} {low : ℕ → ℕ} {l : Kind} {at : Option ℕ} {made : ℕ} {inner : Inner T} {current : List ℕ} (r : Result Step Refusal) (t : Step)
     → r ≡ Ok t → Sits c s below low l r at made inner current → Stands c s below low l t at made inner current
 stands_by {c} {s} {below} {low} {l} {at} {made} {inner} {current} r t e h = subst (λ y. Sits c s below low l y at made inner current) e h
 
@@ -137,34 +138,34 @@ moved_as {c} {s} {at} {to} {i} {before} {before'} {after} {after'} {held} {out} 
     subst (λ y. Moved c s at i y after to held out) (sym f) (subst (λ y. Moved c s at i before' y to held out) (sym g) h)
 
 -- the inner key and the current key of a level are those of i
-pub record MadeAt (c : Model) (s : Stack) (l : Level) (q i : ℕ) (y : Inner) (current : List ℕ) : Type 0 where
+pub record MadeAt {T : Type 0} (c : Model) (s : Stack) (l : Kind) (q i : ℕ) (y : Inner T) (current : List ℕ) : Type 0 where
   pub stage_is : y.stage ≡ stage l (i % q)
   pub inner_is : IsInner c l (key c s (i / q)) y
-  pub current_is : take c.key current ≡ level_key c l (key c s (i / q)) (i % q)
+  pub current_is : current ≡ level_key c l (key c s (i / q)) (i % q)
 
-module _ {c : Model} {s : Stack} {below : Option ℕ} {low : ℕ → ℕ} {l : Level} {t : Step} {at : Option ℕ} {made : ℕ} {inner : Inner} {current : List ℕ}
+module _ {T : Type 0} {c : Model} {s : Stack} {below : Option ℕ} {low : ℕ → ℕ} {l : Kind} {t : Step} {at : Option ℕ} {made : ℕ} {inner : Inner T} {current : List ℕ}
     (stands : Stands c s below low l t at made inner current) (i : ℕ) (h : i < t.count) where
   -- the keys that were made, on from the inner key x
-  pub made_at : {k : Level} {low' : ℕ → ℕ} {below' : Option ℕ} {first : ℕ} (o : Option ℕ) (x y : Inner) (current' parent : List ℕ) → k ≡ l → Laws c
-      → Moved c s below (i / t.quota) low low' below' (replicate 32 0) parent → length parent ≡ 32
+  pub made_at : {k : Kind} {low' : ℕ → ℕ} {below' : Option ℕ} {first : ℕ} (o : Option ℕ) (x y : Inner T) (current' parent buffer : List ℕ) → k ≡ l → Laws c
+      → Moved c s below (i / t.quota) low low' below' (replicate 32 0) buffer → length buffer ≡ 32 → parent ≡ take c.key buffer
       → o ≡ onward t.quota at t.remainder i → first ≡ first_of (renews_own l) o (i % t.quota)
       → MatchOption o ((x.key ≡ parent) × (x.stage ≡ 0)) (λ _. x ≡ inner) → Advanced c k first (i % t.quota) x y
-      → take c.key current' ≡ given c k (take c.key y.key) (i % t.quota) → MadeAt c s l t.quota i y current'
-  made_at {first = first} o x y current' parent ek laws moved long e f k a g =
+      → current' ≡ given c k y.key (i % t.quota) → MadeAt c s l t.quota i y current'
+  made_at {first = first} o x y current' parent buffer ek laws moved long cut e f k a g =
       let r = i % t.quota in
       let p = key c s (i / t.quota) in
-      let is_parent : take c.key parent ≡ p = front c.key p (replicate 32 0) parent moved.key_is long (key_within c laws) in
+      let is_parent : parent ≡ p = cut ∙ front c.key p (replicate 32 0) buffer moved.key_is long (key_within c laws) in
       let b = begun c s l t inner current i parent x first (renews_own l) at stands.here is_parent (f ∙ ap (λ y. first_of (renews_own l) y r) e)
       (subst (λ y. MatchOption y ((x.key ≡ parent) × (x.stage ≡ 0)) (λ _. x ≡ inner)) e k) in
-      let end = subst (λ k. Advanced c k first r x y) ek a p stands.accepted.1 b.0 b.1 in
+      let end = subst (λ k. Advanced c k first r x y) ek a p b.0 b.1 in
       record {
         stage_is = end.0;
         inner_is = end.1;
-        current_is = g ∙ (λ j. given c (ek j) (take c.key y.key) r) ∙ ap (λ z. given c l z r) (end.1 ∙ ap (inner_key c l p) end.0) ∙ by_inner c l p r;
+        current_is = g ∙ (λ j. given c (ek j) y.key r) ∙ ap (λ z. given c l z r) (end.1 ∙ ap (inner_key c l p) end.0) ∙ by_inner c l p r;
       }
 
   -- where the level stands after the move
-  pub stands_on : {s' : Stack} {below' : Option ℕ} {low' : ℕ → ℕ} {l' : Level} {made' : ℕ} (t' : Step) (y : Inner) (current' : List ℕ)
+  pub stands_on : {s' : Stack} {below' : Option ℕ} {low' : ℕ → ℕ} {l' : Kind} {made' : ℕ} (t' : Step) (y : Inner T) (current' : List ℕ)
       → t'.count ≡ t.count → t'.quota ≡ t.quota → t'.remainder ≡ i % t.quota → s' ≡ s → l' ≡ l → below' ≡ Some (i / t.quota)
       → MadeAt c s l t.quota i y current' → Stands c s' below' low' l' t' (Some i) made' y current'
   stands_on {s'} {below'} {low'} {l'} {made'} t' y current' ec eq er es el b f =
@@ -187,11 +188,11 @@ module _ {c : Model} {s : Stack} {below : Option ℕ} {low : ℕ → ℕ} {l : L
       })
 
   -- what the move does
-  pub moves : {s' : Stack} {low' : ℕ → ℕ} {below' : Option ℕ} {made' first : ℕ} (o : Option ℕ) (y : Inner) (current' parent zeros held out : List ℕ)
+  pub moves : {s' : Stack} {low' : ℕ → ℕ} {below' : Option ℕ} {made' first : ℕ} (o : Option ℕ) (y : Inner T) (current' parent zeros held out : List ℕ)
       → 1 ≤ t.quota → (at ≡ Some i → ⊥) → s' ≡ s → Moved c s below (i / t.quota) low low' below' zeros parent
       → o ≡ onward t.quota at t.remainder i → ((r : ℕ) → o ≡ Some r → r < i % t.quota) → first ≡ first_of (renews_own l) o (i % t.quota)
       → made' ≡ capped (made + (suc (i % t.quota) - first))
-      → MadeAt c s l t.quota i y current' → out ≡ take c.key current' ++ drop c.key held
+      → MadeAt c s l t.quota i y current' → out ≡ current' ++ drop c.key held
       → Moved c (on l s) at i (λ j. cond (eqb j (levels s)) made (low j)) (λ j. cond (eqb j (levels s')) made' (low' j)) (Some i) held out
   moves {s'} {low'} {below'} {made'} {first} o y current' parent zeros held out one other es moved eo before ef em f eh =
       let q = t.quota in
@@ -210,7 +211,7 @@ module _ {c : Model} {s : Stack} {below : Option ℕ} {low : ℕ → ℕ} {l : L
       }
 
 -- the same of a level as it is kept
-pub moves_by : {c : Model} {s : Stack} {at to : Option ℕ} {after : ℕ → ℕ} {l : Level} {i : ℕ} {held out : List ℕ} (r : Result Step Refusal) (t : Step) (made : ℕ) (low : ℕ → ℕ) → r ≡ Ok t
+pub moves_by : {c : Model} {s : Stack} {at to : Option ℕ} {after : ℕ → ℕ} {l : Kind} {i : ℕ} {held out : List ℕ} (r : Result Step Refusal) (t : Step) (made : ℕ) (low : ℕ → ℕ) → r ≡ Ok t
     → Moved c (on l s) at i (λ j. cond (eqb j (levels s)) made (low j)) after to held out
     → Moved c (stack_of r l s) at i (ledgers_of r (levels s) made low) after to held out
 moves_by {c} {s} {at} {to} {after} {l} {i} {held} {out} r t made low e h =

@@ -1,7 +1,8 @@
 -- What ties a level to the source below it. Assumes nothing.
-use Rattle.std.specs.Prelude.{◌≡◌, ℕ, ◌*◌, ◌/◌, ◌%◌, ◌<◌, cond, List, take, IfSome, None, Ok, Err, Option, Result, ◌==◌}
+use Rattle.std.specs.Prelude.{◌≡◌, ℕ, ◌*◌, ◌/◌, ◌%◌, ◌<◌, cond, List, IfSome, None, Ok, Err, Option, Result, ◌==◌}
 use Rattle.cipher.specs.Model.{Model}
-use Rattle.rules.specs.Levels.{Level, quota}
+use Rattle.rules.specs.declared.kind.Kind.{Kind}
+use Rattle.rules.specs.Levels.{quota}
 use Rattle.rules.specs.LevelKeys.{level_key}
 use Rattle.rules.specs.InnerKeys.{stage}
 use Rattle.keys.specs.declared.refusals.Refusal.{Refusal}
@@ -13,7 +14,7 @@ use Rattle.levels.specs.Advanced.{IsInner}
 use Rattle.levels.specs.Making.{idle_quotas}
 
 -- the stack of a level on s, which has its numbers or was refused
-abbrev pub stack_of : Result Step Refusal → Level → Stack → Stack
+abbrev pub stack_of : Result Step Refusal → Kind → Stack → Stack
 stack_of (Ok t) l s = on l s
 stack_of (Err x) l s = refused x (idle_quotas s)
 
@@ -23,15 +24,15 @@ ledgers_of (Ok t) n made low j = cond (j == n) made (low j)
 ledgers_of (Err x) n made low j = 0
 
 -- a level stands at i: its inner key and its current key are those of i
-pub record Here (c : Model) (s : Stack) (l : Level) (t : Step) (inner : Inner) (current : List ℕ) (i : ℕ) : Type 0 where
+pub record Here {T : Type 0} (c : Model) (s : Stack) (l : Kind) (t : Step) (inner : Inner T) (current : List ℕ) (i : ℕ) : Type 0 where
   pub within : i < t.count
   pub remainder_is : t.remainder ≡ i % t.quota
   pub stage_is : inner.stage ≡ stage l (i % t.quota)
   pub inner_is : IsInner c l (key c s (i / t.quota)) inner
-  pub current_is : take c.key current ≡ level_key c l (key c s (i / t.quota)) (i % t.quota)
+  pub current_is : current ≡ level_key c l (key c s (i / t.quota)) (i % t.quota)
 
 -- an accepted level on s, which stands at `below` and has the ledgers `low`
-pub record Stands (c : Model) (s : Stack) (below : Option ℕ) (low : ℕ → ℕ) (l : Level) (t : Step) (at : Option ℕ) (made : ℕ) (inner : Inner)
+pub record Stands {T : Type 0} (c : Model) (s : Stack) (below : Option ℕ) (low : ℕ → ℕ) (l : Kind) (t : Step) (at : Option ℕ) (made : ℕ) (inner : Inner T)
     (current : List ℕ) : Type 0 where
   pub accepted : Accepted (on l s)
   pub count_is : t.count ≡ count s * t.quota
@@ -41,6 +42,6 @@ pub record Stands (c : Model) (s : Stack) (below : Option ℕ) (low : ℕ → �
   pub here : IfSome at (Here c s l t inner current)
 
 -- a level on s: it was accepted, or it stands nowhere
-abbrev pub Sits : Model → Stack → Option ℕ → (ℕ → ℕ) → Level → Result Step Refusal → Option ℕ → ℕ → Inner → List ℕ → Type 0
+abbrev pub Sits : {T : Type 0} → Model → Stack → Option ℕ → (ℕ → ℕ) → Kind → Result Step Refusal → Option ℕ → ℕ → Inner T → List ℕ → Type 0
 Sits c s below low l (Ok t) at made inner current = Stands c s below low l t at made inner current
 Sits c s below low l (Err x) at made inner current = at ≡ None

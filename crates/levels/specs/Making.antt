@@ -1,6 +1,6 @@
 -- What the making of a level leaves. Assumes nothing.
 use Rattle.std.specs.Prelude.{◌≡◌, ℕ, min, Bool, cond, List, ◌∷◌, Some, None, Ok, Err, Option, Result, nat_lt}
-use Rattle.rules.specs.Levels.{Level}
+use Rattle.rules.specs.declared.kind.Kind.{Kind}
 use Rattle.keys.specs.declared.refusals.MakingFault.{MakingFault}
 use Rattle.keys.specs.declared.refusals.MakingFault.TheVariants.{OutOfRange, NotFresh, KeysRenewed, TooLarge}
 use Rattle.keys.specs.declared.refusals.Refusal.{Refusal}
@@ -13,12 +13,12 @@ when a f next = cond ((making_refusal f).applies a) (Some f) next
 
 -- the first refusal that applies to a level on a source that is fresh or not, renews its own keys or not, and has so
 -- many levels and keys
-abbrev pub barred_by : Level → Bool → Bool → ℕ → ℕ → Option MakingFault
+abbrev pub barred_by : Kind → Bool → Bool → ℕ → ℕ → Option MakingFault
 barred_by l fresh renewed n m =
     let a = on_source l fresh renewed n m in
     when a OutOfRange (when a NotFresh (when a KeysRenewed (when a TooLarge None)))
 
-abbrev pub barred : Level → Bool → Stack → Option MakingFault
+abbrev pub barred : Kind → Bool → Stack → Option MakingFault
 barred l fresh s = barred_by l fresh (renews_keys s) (levels s) (count s)
 
 -- why a level is not made on a source of n levels with this note: a refusal of the source is passed on whole, and the
@@ -28,19 +28,19 @@ passed_on (Err x) b n = Some x
 passed_on (Ok own) (Some f) n = Some (record { level = min n 255; fault = f })
 passed_on (Ok own) None n = None
 
-abbrev pub refused_by : Level → Bool → Stack → Option Refusal
+abbrev pub refused_by : Kind → Bool → Stack → Option Refusal
 refused_by l fresh s = passed_on (note s) (barred l fresh s) (levels s)
 
 -- the quotas that a refused level leaves: its own is 1, and a level on 256 adds none
 abbrev pub idle_quotas : Stack → List ℕ
 idle_quotas s = cond (nat_lt (levels s) 256) (1 ∷ quotas s) (quotas s)
 
-abbrev pub left_by : Option Refusal → Level → Stack → Stack
+abbrev pub left_by : Option Refusal → Kind → Stack → Stack
 left_by None l s = on l s
 left_by (Some x) l s = refused x (idle_quotas s)
 
 -- what the making of a level on a source leaves
-unfoldable pub stood : Level → Bool → Stack → Stack
+unfoldable pub stood : Kind → Bool → Stack → Stack
 stood l fresh s = left_by (refused_by l fresh s) l s
 
 -- a level on 256 levels adds none and has no keys; where the source has no note of a refusal it notes level 255

@@ -1,8 +1,9 @@
 -- That a level sits on a source can be shown in one way at most, as a ghost field asks. Assumes nothing.
-use Rattle.std.specs.Prelude.{◌≡◌, ℕ, ◌*◌, ◌/◌, ◌%◌, ◌<◌, List, take, IfSome, Some, None, Ok, Err, Option, Result}
+use Rattle.std.specs.Prelude.{◌≡◌, ℕ, ◌*◌, ◌/◌, ◌%◌, ◌<◌, List, IfSome, Some, None, Ok, Err, Option, Result}
 use Rattle.std.proofs.Props.{props}
 use Rattle.cipher.specs.Model.{Model}
-use Rattle.rules.specs.Levels.{Level, quota}
+use Rattle.rules.specs.declared.kind.Kind.{Kind}
+use Rattle.rules.specs.Levels.{quota}
 use Rattle.rules.specs.LevelKeys.{level_key}
 use Rattle.rules.specs.InnerKeys.{stage}
 use Rattle.keys.specs.declared.refusals.Refusal.{Refusal}
@@ -18,14 +19,14 @@ Accepted-prop (bottom m k w) = hlevel props
 Accepted-prop (on l s) = hlevel (props, Accepted-prop s)
 Accepted-prop (refused x qs) = hlevel props
 
-module _ (c : Model) (s : Stack) (l : Level) (t : Step) (inner : Inner) (current : List ℕ) where
+module _ {T : Type 0} (c : Model) (s : Stack) (l : Kind) (t : Step) (inner : Inner T) (current : List ℕ) where
   Here-prop : (i : ℕ) → IsProp (Here c s l t inner current i)
   Here-prop i x y =
       let within_prop : IsProp (i < t.count) = hlevel props in
       let remainder_prop : IsProp (t.remainder ≡ i % t.quota) = hlevel props in
       let stage_prop : IsProp (inner.stage ≡ stage l (i % t.quota)) = hlevel props in
       let inner_prop : IsProp (IsInner c l (key c s (i / t.quota)) inner) = hlevel props in
-      let current_prop : IsProp (take c.key current ≡ level_key c l (key c s (i / t.quota)) (i % t.quota)) = hlevel props in
+      let current_prop : IsProp (current ≡ level_key c l (key c s (i / t.quota)) (i % t.quota)) = hlevel props in
       λ k. record {
         within = within_prop x.within y.within k;
         remainder_is = remainder_prop x.remainder_is y.remainder_is k;
@@ -54,7 +55,7 @@ module _ (c : Model) (s : Stack) (l : Level) (t : Step) (inner : Inner) (current
         here = At-prop at x.here y.here k;
       }
 
-pub Sits-prop : (c : Model) (s : Stack) (below : Option ℕ) (low : ℕ → ℕ) (l : Level) (r : Result Step Refusal) (at : Option ℕ) (made : ℕ) (inner : Inner) (current : List ℕ)
+pub Sits-prop : {T : Type 0} (c : Model) (s : Stack) (below : Option ℕ) (low : ℕ → ℕ) (l : Kind) (r : Result Step Refusal) (at : Option ℕ) (made : ℕ) (inner : Inner T) (current : List ℕ)
     → IsProp (Sits c s below low l r at made inner current)
 Sits-prop c s below low l (Ok t) at made inner current = Stands-prop c s l t inner current below low at made
 Sits-prop c s below low l (Err x) at made inner current = hlevel props

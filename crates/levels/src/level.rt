@@ -8,23 +8,23 @@ ghost use Rattle.levels.specs.OneProof.{Sits-prop};
 
 use crate::maker::Maker;
 use crate::step::{MOST_LEVELS, Step};
-use cipher::{BlockCipher, KeyBuffer};
+use cipher::{BlockCipher, Key, KeyBuffer};
 use keys::{KeySource, MoveFault, Refusal};
-use rules::Rule;
+use rules::Kind;
 
-// A level that makes, by a rule, some keys of each key of the source below.
+// A level of some kind, which makes keys of each key of the source below.
 #[derive(Drop)]
-pub struct Level<C: BlockCipher, S: KeySource<C>, R: Rule<C>> {
+pub struct Level<C: BlockCipher, S: KeySource<C>> {
     below: S,
-    maker: Maker<C, R>,
+    maker: Maker<C>,
     // Its numbers, or why it was not made.
     step: Result<Step, Refusal>,
     position: Option<u32>,
-    ghost sits: { Sits C.BlockCipher.model (S.KeySource.stack below) (S.KeySource.stands below) (S.KeySource.ledgers below) (R.Rule.kind maker.rule) step position maker.made maker.inner maker.current } by { Sits-prop C.BlockCipher.model (S.KeySource.stack below) (S.KeySource.stands below) (S.KeySource.ledgers below) (R.Rule.kind maker.rule) step position maker.made maker.inner maker.current },
+    ghost sits: { Sits C.BlockCipher.model (S.KeySource.stack below) (S.KeySource.stands below) (S.KeySource.ledgers below) maker.kind step position maker.made maker.inner maker.current } by { Sits-prop C.BlockCipher.model (S.KeySource.stack below) (S.KeySource.stands below) (S.KeySource.ledgers below) maker.kind step position maker.made maker.inner maker.current },
 }
 
-impl<C: BlockCipher, S: KeySource<C>, R: Rule<C>> KeySource<C> for Level<C, S, R> {
-    ghost stack = { λ s. stack_of s.step (R.Rule.kind s.maker.rule) (S.KeySource.stack s.below) };
+impl<C: BlockCipher, S: KeySource<C>> KeySource<C> for Level<C, S> {
+    ghost stack = { λ s. stack_of s.step s.maker.kind (S.KeySource.stack s.below) };
 
     ghost stands = { λ s. s.position };
 
@@ -61,7 +61,7 @@ impl<C: BlockCipher, S: KeySource<C>, R: Rule<C>> KeySource<C> for Level<C, S, R
     }
 
     fn renews_own_keys(&self) -> bool {
-        self.step.is_ok() && self.maker.rule.renews_own_keys()
+        self.step.is_ok() && self.maker.kind.renews_own_keys()
     }
 
     fn note(&self) -> Result<u32, Refusal> {
@@ -72,14 +72,14 @@ impl<C: BlockCipher, S: KeySource<C>, R: Rule<C>> KeySource<C> for Level<C, S, R
     fn move_to(&mut self, number: u32, key: &mut KeyBuffer) -> Result<(), MoveFault> {
         let step = self.step_to(number)?;
         if self.position == Some(number) {
-            self.maker.hand_out(key);
+            self.maker.current.write(key);
             return Ok(());
         }
         let onward = step.onward(self.position, number);
         let remainder = number % step.quota;
         let mut parent = [0; 32];
         self.below.move_to(number / step.quota, &mut parent)?;
-        let first = self.maker.prepare(&parent, onward, remainder);
+        let first = self.maker.prepare(Key::new(&parent), onward, remainder);
         self.maker.make_through(first, remainder);
         self.step = Ok(Step {
             count: step.count,
@@ -87,17 +87,17 @@ impl<C: BlockCipher, S: KeySource<C>, R: Rule<C>> KeySource<C> for Level<C, S, R
             remainder,
         });
         self.position = Some(number);
-        self.maker.hand_out(key);
+        self.maker.current.write(key);
         Ok(())
     }
 }
 
-impl<C: BlockCipher, S: KeySource<C>, R: Rule<C>> Level<C, S, R> {
+impl<C: BlockCipher, S: KeySource<C>> Level<C, S> {
     // Its numbers, where it has a key of that number.
     fn step_to(&self, number: u32) -> Result<Step, MoveFault>
         ensures { MatchResult result
             (λ t. (self.now.step ≡ Ok t) × (number < t.count))
-            (λ f. (move_refusal f).given (⟦<Level<C, S, R> as KeySource<C>>⟧.stack self.now) number) }
+            (λ f. (move_refusal f).given (⟦<Level<C, S> as KeySource<C>>⟧.stack self.now) number) }
     {
         self.step
             .ok()
@@ -106,15 +106,15 @@ impl<C: BlockCipher, S: KeySource<C>, R: Rule<C>> Level<C, S, R> {
     }
 
     // Makes a level on a source. What is refused is a source all the same, without keys, and its note says why.
-    pub fn stand(below: S, rule: R) -> Level<C, S, R>
-        ensures stack { ⟦<Level<C, S, R> as KeySource<C>>⟧.stack result ≡ stood (R.Rule.kind rule) (not (is_some (S.KeySource.stands below))) (S.KeySource.stack below) }
-        ensures stands { ⟦<Level<C, S, R> as KeySource<C>>⟧.stands result ≡ None }
-        ensures limit { levels_of (S.KeySource.stack below) ≡ 256 → AtLimit (S.KeySource.stack below) (⟦<Level<C, S, R> as KeySource<C>>⟧.stack result) }
+    pub fn stand(below: S, kind: Kind) -> Level<C, S>
+        ensures stack { ⟦<Level<C, S> as KeySource<C>>⟧.stack result ≡ stood kind (not (is_some (S.KeySource.stands below))) (S.KeySource.stack below) }
+        ensures stands { ⟦<Level<C, S> as KeySource<C>>⟧.stands result ≡ None }
+        ensures limit { levels_of (S.KeySource.stack below) ≡ 256 → AtLimit (S.KeySource.stack below) (⟦<Level<C, S> as KeySource<C>>⟧.stack result) }
     {
-        let step = Step::settle::<C, S, R>(&below, &rule);
+        let step = Step::settle::<C, S>(&below, kind);
         Level {
             below,
-            maker: Maker::new(rule),
+            maker: Maker::new(kind),
             step,
             position: None,
         }

@@ -3,8 +3,6 @@
 
 mod level;
 mod maker;
-mod makings;
 mod step;
 
 pub use level::Level;
-pub use makings::{branch, chain, fan, master, serial};

@@ -1,81 +1,78 @@
 // The making of a level's keys.
-ghost use Rattle.std.specs.Prelude.{◌≡◌, ℕ, suc, ◌+◌, ◌-◌, ◌<◌, ◌≤◌, ◌++◌, take, drop, Some, None, Option, MatchOption};
+ghost use Rattle.std.specs.Prelude.{◌≡◌, ℕ, suc, ◌+◌, ◌-◌, ◌<◌, ◌≤◌, Some, None, Option, MatchOption};
 ghost use Rattle.rules.specs.Levels.{renews_own};
 ghost use Rattle.rules.specs.InnerKeys.{given};
 ghost use Rattle.keys.specs.Moving.{capped};
 ghost use Rattle.levels.specs.Advanced.{Advanced};
 ghost use Rattle.levels.specs.Onward.{first_of};
 
-use cipher::{BlockCipher, KeyBuffer};
-use rules::Rule;
-use std::marker::PhantomData;
+use cipher::{BlockCipher, Key};
+use rules::Kind;
 
 // An inner key, which has been replaced `stage` times since the key below.
-#[derive(Clone, Copy)]
-pub(crate) struct Inner {
-    pub key: KeyBuffer,
+#[derive(Drop)]
+pub(crate) struct Inner<C: BlockCipher> {
+    pub key: Key<C>,
     pub stage: u32,
 }
 
 // Makes a level's keys, and counts them.
 #[derive(Drop)]
-pub(crate) struct Maker<C: BlockCipher, R: Rule<C>> {
-    pub rule: R,
-    pub cipher: PhantomData<C>,
-    pub inner: Inner,
-    pub current: KeyBuffer,
+pub(crate) struct Maker<C: BlockCipher> {
+    pub kind: Kind,
+    pub inner: Inner<C>,
+    pub current: Key<C>,
     pub made: u32,
 }
 
-impl<C: BlockCipher, R: Rule<C>> Maker<C, R> {
-    pub(crate) fn new(rule: R) -> Maker<C, R>
-        ensures rule { result.rule ≡ rule }
+impl<C: BlockCipher> Maker<C> {
+    pub(crate) fn new(kind: Kind) -> Maker<C>
+        ensures kind { result.kind ≡ kind }
         ensures made { result.made ≡ 0 }
     {
         Maker {
-            rule,
-            cipher: PhantomData,
+            kind,
             inner: Inner {
-                key: [0; 32],
+                key: Key::new(&[0; 32]),
                 stage: 0,
             },
-            current: [0; 32],
+            current: Key::new(&[0; 32]),
             made: 0,
         }
     }
 
     // Replaces the inner key until it is the one for a remainder.
     fn advance(&mut self, remainder: u32)
-        ensures rule { self.new.rule ≡ self.old.rule }
+        ensures kind { self.new.kind ≡ self.old.kind }
         ensures made { self.new.made ≡ self.old.made }
-        ensures inner { Advanced C.BlockCipher.model (R.Rule.kind self.old.rule) remainder remainder self.old.inner self.new.inner }
+        ensures inner { Advanced C.BlockCipher.model self.old.kind remainder remainder self.old.inner self.new.inner }
     {
-        let stage = self.rule.stage(remainder);
+        let stage = self.kind.stage(remainder);
         while self.inner.stage < stage {
-            self.inner.key = self.rule.step(&self.inner.key);
+            self.inner.key = self.kind.step(&self.inner.key);
             self.inner.stage += 1;
         }
     }
 
     // Makes one key given out, and counts it: nothing else does either.
     fn make(&mut self, remainder: u32)
-        ensures rule { self.new.rule ≡ self.old.rule }
+        ensures kind { self.new.kind ≡ self.old.kind }
         ensures made { self.new.made ≡ capped (self.old.made + 1) }
-        ensures inner { Advanced C.BlockCipher.model (R.Rule.kind self.old.rule) remainder remainder self.old.inner self.new.inner }
-        ensures key { take C.BlockCipher.model.key self.new.current ≡ given C.BlockCipher.model (R.Rule.kind self.old.rule) (take C.BlockCipher.model.key self.new.inner.key) remainder }
+        ensures inner { Advanced C.BlockCipher.model self.old.kind remainder remainder self.old.inner self.new.inner }
+        ensures key { self.new.current ≡ given C.BlockCipher.model self.old.kind self.new.inner.key remainder }
     {
         self.advance(remainder);
-        self.current = self.rule.key(&self.inner.key, remainder);
+        self.current = self.kind.key(&self.inner.key, remainder);
         self.made = self.made.saturating_add(1);
     }
 
     // Makes the keys of the remainders from the first to the last.
     pub(crate) fn make_through(&mut self, first: u32, last: u32)
         requires { first ≤ last }
-        ensures rule { self.new.rule ≡ self.old.rule }
+        ensures kind { self.new.kind ≡ self.old.kind }
         ensures made { self.new.made ≡ capped (self.old.made + (suc last - first)) }
-        ensures inner { Advanced C.BlockCipher.model (R.Rule.kind self.old.rule) first last self.old.inner self.new.inner }
-        ensures key { take C.BlockCipher.model.key self.new.current ≡ given C.BlockCipher.model (R.Rule.kind self.old.rule) (take C.BlockCipher.model.key self.new.inner.key) last }
+        ensures inner { Advanced C.BlockCipher.model self.old.kind first last self.old.inner self.new.inner }
+        ensures key { self.new.current ≡ given C.BlockCipher.model self.old.kind self.new.inner.key last }
     {
         for remainder in first..last {
             self.make(remainder);
@@ -85,34 +82,26 @@ impl<C: BlockCipher, R: Rule<C>> Maker<C, R> {
 
     // Goes on from the inner key that it has, or begins with the key below; tells the first remainder whose
     // key is to be made on the way to the last. Only inner keys that are given out count.
-    pub(crate) fn prepare(&mut self, parent: &KeyBuffer, onward: Option<u32>, last: u32) -> u32
+    pub(crate) fn prepare(&mut self, parent: Key<C>, onward: Option<u32>, last: u32) -> u32
         requires { (r : ℕ) → onward ≡ Some r → r < last }
-        ensures rule { self.new.rule ≡ self.old.rule }
+        ensures kind { self.new.kind ≡ self.old.kind }
         ensures made { self.new.made ≡ self.old.made }
-        ensures first { result ≡ first_of (renews_own (R.Rule.kind self.old.rule)) onward last }
+        ensures first { result ≡ first_of (renews_own self.old.kind) onward last }
         ensures inner { MatchOption onward
-            ((self.new.inner.key ≡ parent.now) × (self.new.inner.stage ≡ 0))
+            ((self.new.inner.key ≡ parent) × (self.new.inner.stage ≡ 0))
             (λ _. self.new.inner ≡ self.old.inner) }
     {
         let Some(from) = onward else {
             self.inner = Inner {
-                key: *parent,
+                key: parent,
                 stage: 0,
             };
-            return if self.rule.renews_own_keys() { 0 } else { last };
+            return if self.kind.renews_own_keys() { 0 } else { last };
         };
-        if self.rule.renews_own_keys() {
+        if self.kind.renews_own_keys() {
             from + 1
         } else {
             last
         }
-    }
-
-    // Writes the current key.
-    pub(crate) fn hand_out(&self, key: &mut KeyBuffer)
-        ensures { key.new ≡ take C.BlockCipher.model.key self.now.current ++ drop C.BlockCipher.model.key key.old }
-    {
-        let n = C::key_len();
-        key[..n].copy_from_slice(&self.current[..n]);
     }
 }

@@ -1,5 +1,4 @@
-use Rattle.std.proofs.Common.{◌≡◌, ℕ, ◌+◌, ◌-◌, ◌≤◌, true, List}
-use Rattle.rules.specs.Levels.{ranged}
+use Rattle.std.proofs.Common.{◌≡◌, ℕ, ◌+◌, ◌-◌, ◌≤◌, List}
 use Rattle.rules.specs.InnerKeys.{stage}
 use Rattle.keys.specs.Moving.{capped}
 use Rattle.levels.specs.Advanced.{IsInner}
@@ -9,6 +8,6 @@ abbrev pub invariant-loop-remainder : goal.invariant-loop-remainder
 invariant-loop-remainder g l =
     let e = l.initial.self in
     let c = g.C.BlockCipher.model in
-    let k = g.R.Rule.kind e.rule in
-    (l.self.rule ≡ e.rule) × (capped (l.self.made + 1) ≡ capped (e.made + (l.remainder + 1 - l.first))) ×
-    ((p : List ℕ) → ranged k ≡ true → e.inner.stage ≤ stage k l.first → IsInner c k p e.inner → (l.self.inner.stage ≤ stage k l.remainder) × IsInner c k p l.self.inner)
+    let k = e.kind in
+    (l.self.kind ≡ e.kind) × (capped (l.self.made + 1) ≡ capped (e.made + (l.remainder + 1 - l.first))) ×
+    ((p : List ℕ) → e.inner.stage ≤ stage k l.first → IsInner c k p e.inner → (l.self.inner.stage ≤ stage k l.remainder) × IsInner c k p l.self.inner)
