@@ -1,92 +1,65 @@
-// The keys of the stacks. Each level is made in a function of its own, over any source: a function that names a nest
-// of levels takes three times as long to check for each level more.
-ghost use Rattle.std.specs.Prelude.{◌≡◌, [], ◌∷◌, length, replicate, None};
+// The keys of the stacks.
+ghost use Rattle.std.specs.Prelude.{◌≡◌, List, [], ◌∷◌, length, replicate, None};
+ghost use Rattle.rules.specs.declared.kind.Kind.{Kind};
 ghost use Rattle.keys.specs.Bottom.{rooted};
 ghost use Rattle.stacks.specs.Stacks.{planned, built};
 ghost use Rattle.stacks.specs.Keys.{KeyGiven};
 
-use crate::plan::Plan;
+use crate::plan::{AxisStack, Plan};
 use crate::refusal::KeyRefusal;
 use cipher::{BlockCipher, KeyBuffer};
 use keys::{KeySource, Root};
 use levels::Level;
-use rules::{Branch, Chain, Fan, Master, Rule, Serial};
+use rules::Kind;
 
 const AXIS_PERIOD: u32 = 16;
 
-const UPPER_FAN: u32 = 16;
+const UPPER_FAN: Kind = Kind::Fan { quota: 16 };
 
-const UPPER_CHAIN: u32 = 8;
+const UPPER_CHAIN: Kind = Kind::Chain { quota: 8 };
 
-// Writes the key of that number, unless the making of the source was refused.
-fn give<C: BlockCipher, S: KeySource<C>>(
-    mut source: S,
-    number: u32,
-    out: &mut KeyBuffer,
-) -> Result<(), KeyRefusal>
-    ensures { KeyGiven C.BlockCipher.model (S.KeySource.stack source) number out.old out.new result }
-{
-    source.note()?;
-    source.move_to(number, out)?;
-    Ok(())
+// Levels to be made on one another: none, or the kind of the lowest and the levels above it.
+trait Levels<C: BlockCipher>: Sized + Drop {
+    // Their kinds, from the bottom up.
+    ghost kinds: { Self → List Kind };
+
+    // Makes them on a source, and writes the key of that number, unless a making was refused.
+    fn give<S: KeySource<C>>(
+        self,
+        below: S,
+        number: u32,
+        out: &mut KeyBuffer,
+    ) -> Result<(), KeyRefusal>
+        ensures { S.KeySource.stands below ≡ None → KeyGiven C.BlockCipher.model (built (kinds self) (S.KeySource.stack below)) number out.old out.new result };
 }
 
-// The same of one level on a source, and of two, three and four on one another.
-fn on_one<C: BlockCipher, S: KeySource<C>, T: Rule<C>>(
-    below: S,
-    top: T,
-    number: u32,
-    out: &mut KeyBuffer,
-) -> Result<(), KeyRefusal>
-    ensures { S.KeySource.stands below ≡ None → KeyGiven C.BlockCipher.model (built (T.Rule.kind top ∷ []) (S.KeySource.stack below)) number out.old out.new result }
-{
-    give::<C, Level<C, S, T>>(Level::stand(below, top), number, out)
+impl<C: BlockCipher> Levels<C> for () {
+    ghost kinds = { λ _. [] };
+
+    fn give<S: KeySource<C>>(
+        self,
+        mut below: S,
+        number: u32,
+        out: &mut KeyBuffer,
+    ) -> Result<(), KeyRefusal> {
+        below.note()?;
+        below.move_to(number, out)?;
+        Ok(())
+    }
 }
 
-fn on_two<C: BlockCipher, S: KeySource<C>, P: Rule<C>, T: Rule<C>>(
-    below: S,
-    low: P,
-    top: T,
-    number: u32,
-    out: &mut KeyBuffer,
-) -> Result<(), KeyRefusal>
-    ensures { S.KeySource.stands below ≡ None → KeyGiven C.BlockCipher.model (built (P.Rule.kind low ∷ T.Rule.kind top ∷ []) (S.KeySource.stack below)) number out.old out.new result }
-{
-    on_one::<C, Level<C, S, P>, T>(Level::stand(below, low), top, number, out)
-}
+impl<C: BlockCipher, L: Levels<C>> Levels<C> for (Kind, L) {
+    ghost kinds = { λ l. l.0 ∷ L.Levels.kinds l.1 };
 
-fn on_three<C: BlockCipher, S: KeySource<C>, Q: Rule<C>, P: Rule<C>, T: Rule<C>>(
-    below: S,
-    low: Q,
-    middle: P,
-    top: T,
-    number: u32,
-    out: &mut KeyBuffer,
-) -> Result<(), KeyRefusal>
-    ensures { S.KeySource.stands below ≡ None → KeyGiven C.BlockCipher.model (built (Q.Rule.kind low ∷ P.Rule.kind middle ∷ T.Rule.kind top ∷ []) (S.KeySource.stack below)) number out.old out.new result }
-{
-    on_two::<C, Level<C, S, Q>, P, T>(Level::stand(below, low), middle, top, number, out)
-}
-
-fn on_four<C: BlockCipher, S: KeySource<C>, R: Rule<C>, Q: Rule<C>, P: Rule<C>, T: Rule<C>>(
-    below: S,
-    low: R,
-    second: Q,
-    third: P,
-    top: T,
-    number: u32,
-    out: &mut KeyBuffer,
-) -> Result<(), KeyRefusal>
-    ensures { S.KeySource.stands below ≡ None → KeyGiven C.BlockCipher.model (built (R.Rule.kind low ∷ Q.Rule.kind second ∷ P.Rule.kind third ∷ T.Rule.kind top ∷ []) (S.KeySource.stack below)) number out.old out.new result }
-{
-    on_three::<C, Level<C, S, R>, Q, P, T>(
-        Level::stand(below, low),
-        second,
-        third,
-        top,
-        number,
-        out,
-    )
+    fn give<S: KeySource<C>>(
+        self,
+        below: S,
+        number: u32,
+        out: &mut KeyBuffer,
+    ) -> Result<(), KeyRefusal> {
+        let (lowest, above) = self;
+        above.give(Level::stand(below, lowest), number, out)
+    }
 }
 
 // Writes the key of that number of a stack on the root of a key, whose buffer is all zeros afterwards.
@@ -101,50 +74,36 @@ pub fn key_of<C: BlockCipher>(
     ensures cases { KeyGiven C.BlockCipher.model (built (planned plan quota) (rooted C.BlockCipher.model.key key.old)) number out.old out.new result }
 {
     let root: Root<C> = Root::from_key(key);
-    let upper = Chain { quota: UPPER_CHAIN };
+    let (fan, serial, chain) = (
+        Kind::Fan { quota },
+        Kind::Serial { quota },
+        Kind::Chain { quota },
+    );
     match plan {
-        Plan::AxisChain(axis) => on_two::<C, Root<C>, Branch, Chain>(
-            root,
-            Branch { number: axis },
-            Chain { quota },
-            number,
-            out,
-        ),
-        Plan::AxisMaster(axis) => {
-            let top = Master {
-                quota,
-                period: AXIS_PERIOD,
+        Plan::OnAxis(stack, number_of_axis) => {
+            let axis = Kind::Branch {
+                number: number_of_axis,
             };
-            on_two::<C, Root<C>, Branch, Master>(root, Branch { number: axis }, top, number, out)
+            match stack {
+                AxisStack::Chain => (axis, (chain, ())).give(root, number, out),
+                AxisStack::Master => {
+                    let master = Kind::Master {
+                        quota,
+                        period: AXIS_PERIOD,
+                    };
+                    (axis, (master, ())).give(root, number, out)
+                }
+                AxisStack::SerialChain => {
+                    (axis, (serial, (UPPER_CHAIN, ()))).give(root, number, out)
+                }
+                AxisStack::FanFanChain => {
+                    (axis, (fan, (UPPER_FAN, (UPPER_CHAIN, ())))).give(root, number, out)
+                }
+            }
         }
-        Plan::AxisSerialChain(axis) => on_three::<C, Root<C>, Branch, Serial, Chain>(
-            root,
-            Branch { number: axis },
-            Serial { quota },
-            upper,
-            number,
-            out,
-        ),
-        Plan::AxisFanFanChain(axis) => {
-            let fans = (Fan { quota }, Fan { quota: UPPER_FAN });
-            on_four::<C, Root<C>, Branch, Fan, Fan, Chain>(
-                root,
-                Branch { number: axis },
-                fans.0,
-                fans.1,
-                upper,
-                number,
-                out,
-            )
-        }
-        Plan::OneFan => on_one::<C, Root<C>, Fan>(root, Fan { quota }, number, out),
-        Plan::OneSerial => on_one::<C, Root<C>, Serial>(root, Serial { quota }, number, out),
-        Plan::OneChain => on_one::<C, Root<C>, Chain>(root, Chain { quota }, number, out),
-        Plan::OneMaster(period) => on_one::<C, Root<C>, Master>(
-            root,
-            Master { quota, period },
-            number,
-            out,
-        ),
+        Plan::OneFan => (fan, ()).give(root, number, out),
+        Plan::OneSerial => (serial, ()).give(root, number, out),
+        Plan::OneChain => (chain, ()).give(root, number, out),
+        Plan::OneMaster(period) => (Kind::Master { quota, period }, ()).give(root, number, out),
     }
 }

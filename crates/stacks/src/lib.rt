@@ -6,5 +6,5 @@ mod plan;
 mod refusal;
 
 pub use giving::key_of;
-pub use plan::Plan;
+pub use plan::{AxisStack, Plan};
 pub use refusal::KeyRefusal;

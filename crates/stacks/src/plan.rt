@@ -1,14 +1,22 @@
 // The stacks that the programs name: each has one quota left open.
+
+// On the branch of an axis.
+#[derive(Clone, Copy)]
+pub enum AxisStack {
+    // A chain.
+    Chain,
+    // A master whose inner key is renewed after each 16 keys.
+    Master,
+    // A serial level, and a chain of 8 on it.
+    SerialChain,
+    // A fan, a fan of 16 on it, and a chain of 8 on that.
+    FanFanChain,
+}
+
 #[derive(Clone, Copy)]
 pub enum Plan {
-    // On the branch of an axis: a chain.
-    AxisChain(u32),
-    // On the branch of an axis: a master whose inner key is renewed after each 16 keys.
-    AxisMaster(u32),
-    // On the branch of an axis: a serial level, and a chain of 8 on it.
-    AxisSerialChain(u32),
-    // On the branch of an axis: a fan, a fan of 16 on it, and a chain of 8 on that.
-    AxisFanFanChain(u32),
+    // A stack on the branch of the axis of that number.
+    OnAxis(AxisStack, u32),
     // One level on the root.
     OneFan,
     OneSerial,

@@ -6,7 +6,7 @@ use keys::{MoveFault, Refusal};
 
 #[derive(Clone, Copy)]
 pub enum KeyRefusal {
-    // The stack cannot be made.
+    // The stack cannot be made, and its note says why.
     Stack(Refusal),
     // The stack does not move to that number.
     Move(MoveFault),
