@@ -17,23 +17,20 @@ pub(crate) struct Inner {
     pub stage: u32,
 }
 
-// Makes a level's keys, and counts them.
+// Makes a level's keys by its rule, and counts them.
 #[derive(Drop)]
-pub(crate) struct Maker<C: BlockCipher, R: Rule<C>> {
-    pub rule: R,
+pub(crate) struct Maker<C: BlockCipher> {
     pub cipher: PhantomData<C>,
     pub inner: Inner,
     pub current: KeyBuffer,
     pub made: u32,
 }
 
-impl<C: BlockCipher, R: Rule<C>> Maker<C, R> {
-    pub(crate) fn new(rule: R) -> Maker<C, R>
-        ensures rule { result.rule ≡ rule }
-        ensures made { result.made ≡ 0 }
+impl<C: BlockCipher> Maker<C> {
+    pub(crate) fn new() -> Maker<C>
+        ensures { result.made ≡ 0 }
     {
         Maker {
-            rule,
             cipher: PhantomData,
             inner: Inner {
                 key: [0; 32],
@@ -45,64 +42,66 @@ impl<C: BlockCipher, R: Rule<C>> Maker<C, R> {
     }
 
     // Replaces the inner key until it is the one for a remainder.
-    fn advance(&mut self, remainder: u32)
-        ensures rule { self.new.rule ≡ self.old.rule }
+    fn advance<R: Rule<C>>(&mut self, rule: &R, remainder: u32)
         ensures made { self.new.made ≡ self.old.made }
-        ensures inner { Advanced C.BlockCipher.model (R.Rule.kind self.old.rule) remainder remainder self.old.inner self.new.inner }
+        ensures inner { Advanced C.BlockCipher.model (R.Rule.kind rule.now) remainder remainder self.old.inner self.new.inner }
     {
-        let stage = self.rule.stage(remainder);
-        while self.inner.stage < stage {
-            self.inner.key = self.rule.step(&self.inner.key);
-            self.inner.stage += 1;
+        for stage in self.inner.stage..rule.stage(remainder) {
+            self.inner = Inner {
+                key: rule.step(&self.inner.key),
+                stage: stage + 1,
+            };
         }
     }
 
     // Makes one key given out, and counts it: nothing else does either.
-    fn make(&mut self, remainder: u32)
-        ensures rule { self.new.rule ≡ self.old.rule }
+    fn make<R: Rule<C>>(&mut self, rule: &R, remainder: u32)
         ensures made { self.new.made ≡ capped (self.old.made + 1) }
-        ensures inner { Advanced C.BlockCipher.model (R.Rule.kind self.old.rule) remainder remainder self.old.inner self.new.inner }
-        ensures key { take C.BlockCipher.model.key self.new.current ≡ given C.BlockCipher.model (R.Rule.kind self.old.rule) (take C.BlockCipher.model.key self.new.inner.key) remainder }
+        ensures inner { Advanced C.BlockCipher.model (R.Rule.kind rule.now) remainder remainder self.old.inner self.new.inner }
+        ensures key { take C.BlockCipher.model.key self.new.current ≡ given C.BlockCipher.model (R.Rule.kind rule.now) (take C.BlockCipher.model.key self.new.inner.key) remainder }
     {
-        self.advance(remainder);
-        self.current = self.rule.key(&self.inner.key, remainder);
+        self.advance(rule, remainder);
+        self.current = rule.key(&self.inner.key, remainder);
         self.made = self.made.saturating_add(1);
     }
 
     // Makes the keys of the remainders from the first to the last.
-    pub(crate) fn make_through(&mut self, first: u32, last: u32)
+    pub(crate) fn make_through<R: Rule<C>>(&mut self, rule: &R, first: u32, last: u32)
         requires { first ≤ last }
-        ensures rule { self.new.rule ≡ self.old.rule }
         ensures made { self.new.made ≡ capped (self.old.made + (suc last - first)) }
-        ensures inner { Advanced C.BlockCipher.model (R.Rule.kind self.old.rule) first last self.old.inner self.new.inner }
-        ensures key { take C.BlockCipher.model.key self.new.current ≡ given C.BlockCipher.model (R.Rule.kind self.old.rule) (take C.BlockCipher.model.key self.new.inner.key) last }
+        ensures inner { Advanced C.BlockCipher.model (R.Rule.kind rule.now) first last self.old.inner self.new.inner }
+        ensures key { take C.BlockCipher.model.key self.new.current ≡ given C.BlockCipher.model (R.Rule.kind rule.now) (take C.BlockCipher.model.key self.new.inner.key) last }
     {
         for remainder in first..last {
-            self.make(remainder);
+            self.make(rule, remainder);
         }
-        self.make(last);
+        self.make(rule, last);
     }
 
     // Goes on from the inner key that it has, or begins with the key below; tells the first remainder whose
     // key is to be made on the way to the last. Only inner keys that are given out count.
-    pub(crate) fn prepare(&mut self, parent: &KeyBuffer, onward: Option<u32>, last: u32) -> u32
+    pub(crate) fn prepare<R: Rule<C>>(
+        &mut self,
+        rule: &R,
+        parent: &KeyBuffer,
+        onward: Option<u32>,
+        last: u32,
+    ) -> u32
         requires { (r : ℕ) → onward ≡ Some r → r < last }
-        ensures rule { self.new.rule ≡ self.old.rule }
         ensures made { self.new.made ≡ self.old.made }
-        ensures first { result ≡ first_of (renews_own (R.Rule.kind self.old.rule)) onward last }
+        ensures first { result ≡ first_of (renews_own (R.Rule.kind rule.now)) onward last }
         ensures inner { MatchOption onward
             ((self.new.inner.key ≡ parent.now) × (self.new.inner.stage ≡ 0))
             (λ _. self.new.inner ≡ self.old.inner) }
     {
-        let Some(from) = onward else {
+        if onward.is_none() {
             self.inner = Inner {
                 key: *parent,
                 stage: 0,
             };
-            return if self.rule.renews_own_keys() { 0 } else { last };
-        };
-        if self.rule.renews_own_keys() {
-            from + 1
+        }
+        if rule.renews_own_keys() {
+            onward.map_or(0, |from| from + 1)
         } else {
             last
         }

@@ -1,5 +1,5 @@
 // The makings of the five kinds of level.
-ghost use Rattle.std.specs.Prelude.{◌≡◌, not, is_some, None};
+ghost use Rattle.std.specs.Prelude.{◌≡◌, is_none, None};
 ghost use Rattle.rules.specs.Levels.{branch as branch_of, fan as fan_of, serial as serial_of, chain as chain_of, master as master_of};
 ghost use Rattle.levels.specs.Making.{stood};
 
@@ -10,7 +10,7 @@ use rules::{Branch, Chain, Fan, Master, Serial};
 
 // A branch of that number.
 pub fn branch<C: BlockCipher, S: KeySource<C>>(below: S, number: u32) -> Level<C, S, Branch>
-    ensures stack { ⟦<Level<C, S, Branch> as KeySource<C>>⟧.stack result ≡ stood (branch_of number) (not (is_some (S.KeySource.stands below))) (S.KeySource.stack below) }
+    ensures stack { ⟦<Level<C, S, Branch> as KeySource<C>>⟧.stack result ≡ stood (branch_of number) (is_none (S.KeySource.stands below)) (S.KeySource.stack below) }
     ensures stands { ⟦<Level<C, S, Branch> as KeySource<C>>⟧.stands result ≡ None }
 {
     Level::stand(below, Branch { number })
@@ -18,7 +18,7 @@ pub fn branch<C: BlockCipher, S: KeySource<C>>(below: S, number: u32) -> Level<C
 
 // A fan of so many keys.
 pub fn fan<C: BlockCipher, S: KeySource<C>>(below: S, quota: u32) -> Level<C, S, Fan>
-    ensures stack { ⟦<Level<C, S, Fan> as KeySource<C>>⟧.stack result ≡ stood (fan_of quota) (not (is_some (S.KeySource.stands below))) (S.KeySource.stack below) }
+    ensures stack { ⟦<Level<C, S, Fan> as KeySource<C>>⟧.stack result ≡ stood (fan_of quota) (is_none (S.KeySource.stands below)) (S.KeySource.stack below) }
     ensures stands { ⟦<Level<C, S, Fan> as KeySource<C>>⟧.stands result ≡ None }
 {
     Level::stand(below, Fan { quota })
@@ -26,7 +26,7 @@ pub fn fan<C: BlockCipher, S: KeySource<C>>(below: S, quota: u32) -> Level<C, S,
 
 // A serial level of so many keys.
 pub fn serial<C: BlockCipher, S: KeySource<C>>(below: S, quota: u32) -> Level<C, S, Serial>
-    ensures stack { ⟦<Level<C, S, Serial> as KeySource<C>>⟧.stack result ≡ stood (serial_of quota) (not (is_some (S.KeySource.stands below))) (S.KeySource.stack below) }
+    ensures stack { ⟦<Level<C, S, Serial> as KeySource<C>>⟧.stack result ≡ stood (serial_of quota) (is_none (S.KeySource.stands below)) (S.KeySource.stack below) }
     ensures stands { ⟦<Level<C, S, Serial> as KeySource<C>>⟧.stands result ≡ None }
 {
     Level::stand(below, Serial { quota })
@@ -34,7 +34,7 @@ pub fn serial<C: BlockCipher, S: KeySource<C>>(below: S, quota: u32) -> Level<C,
 
 // A chain of so many keys.
 pub fn chain<C: BlockCipher, S: KeySource<C>>(below: S, quota: u32) -> Level<C, S, Chain>
-    ensures stack { ⟦<Level<C, S, Chain> as KeySource<C>>⟧.stack result ≡ stood (chain_of quota) (not (is_some (S.KeySource.stands below))) (S.KeySource.stack below) }
+    ensures stack { ⟦<Level<C, S, Chain> as KeySource<C>>⟧.stack result ≡ stood (chain_of quota) (is_none (S.KeySource.stands below)) (S.KeySource.stack below) }
     ensures stands { ⟦<Level<C, S, Chain> as KeySource<C>>⟧.stands result ≡ None }
 {
     Level::stand(below, Chain { quota })
@@ -46,7 +46,7 @@ pub fn master<C: BlockCipher, S: KeySource<C>>(
     quota: u32,
     period: u32,
 ) -> Level<C, S, Master>
-    ensures stack { ⟦<Level<C, S, Master> as KeySource<C>>⟧.stack result ≡ stood (master_of quota period) (not (is_some (S.KeySource.stands below))) (S.KeySource.stack below) }
+    ensures stack { ⟦<Level<C, S, Master> as KeySource<C>>⟧.stack result ≡ stood (master_of quota period) (is_none (S.KeySource.stands below)) (S.KeySource.stack below) }
     ensures stands { ⟦<Level<C, S, Master> as KeySource<C>>⟧.stands result ≡ None }
 {
     Level::stand(below, Master { quota, period })

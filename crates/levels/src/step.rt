@@ -1,5 +1,5 @@
 // What each level keeps in numbers.
-ghost use Rattle.std.specs.Prelude.{◌≡◌, ℕ, ◌%◌, ◌<◌, ◌≤◌, not, is_some, Some, IfOk};
+ghost use Rattle.std.specs.Prelude.{◌≡◌, ℕ, ◌%◌, ◌<◌, ◌≤◌, is_none, Some, IfOk};
 ghost use Rattle.keys.specs.Sources.{Facts};
 ghost use Rattle.levels.specs.Making.{barred, refused_by, Planned};
 ghost use Rattle.levels.specs.Onward.{onward as onward_from};
@@ -32,7 +32,7 @@ impl Step {
         below: &S,
         rule: &R,
     ) -> Result<Step, MakingFault>
-        ensures cases { Planned (barred (R.Rule.kind rule.now) (not (is_some (S.KeySource.stands below.now))) (S.KeySource.stack below.now)) result (Numbers (R.Rule.kind rule.now) (S.KeySource.stack below.now)) }
+        ensures cases { Planned (barred (R.Rule.kind rule.now) (is_none (S.KeySource.stands below.now)) (S.KeySource.stack below.now)) result (Numbers (R.Rule.kind rule.now) (S.KeySource.stack below.now)) }
         ensures facts { IfOk result (λ _. Facts (S.KeySource.stack below.now) (S.KeySource.stands below.now) (S.KeySource.ledgers below.now)) }
     {
         if !rule.in_range() {
@@ -60,7 +60,7 @@ impl Step {
         below: &S,
         rule: &R,
     ) -> Result<Step, Refusal>
-        ensures cases { Planned (refused_by (R.Rule.kind rule.now) (not (is_some (S.KeySource.stands below.now))) (S.KeySource.stack below.now)) result (Numbers (R.Rule.kind rule.now) (S.KeySource.stack below.now)) }
+        ensures cases { Planned (refused_by (R.Rule.kind rule.now) (is_none (S.KeySource.stands below.now)) (S.KeySource.stack below.now)) result (Numbers (R.Rule.kind rule.now) (S.KeySource.stack below.now)) }
         ensures facts { IfOk result (λ _. Facts (S.KeySource.stack below.now) (S.KeySource.stands below.now) (S.KeySource.ledgers below.now)) }
     {
         below.note()?;

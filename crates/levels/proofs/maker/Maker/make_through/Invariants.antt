@@ -9,6 +9,6 @@ abbrev pub invariant-loop-remainder : goal.invariant-loop-remainder
 invariant-loop-remainder g l =
     let e = l.initial.self in
     let c = g.C.BlockCipher.model in
-    let k = g.R.Rule.kind e.rule in
-    (l.self.rule ≡ e.rule) × (capped (l.self.made + 1) ≡ capped (e.made + (l.remainder + 1 - l.first))) ×
+    let k = g.R.Rule.kind l.rule in
+    (capped (l.self.made + 1) ≡ capped (e.made + (l.remainder + 1 - l.first))) ×
     ((p : List ℕ) → ranged k ≡ true → e.inner.stage ≤ stage k l.first → IsInner c k p e.inner → (l.self.inner.stage ≤ stage k l.remainder) × IsInner c k p l.self.inner)
