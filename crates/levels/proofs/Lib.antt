@@ -1,3 +1,2 @@
-pub mod Inners
 pub mod Made
 pub mod Standing

@@ -1,5 +1,5 @@
 -- What ties a level to the source below it. Assumes nothing.
-use Rattle.std.specs.Prelude.{◌≡◌, ℕ, ◌*◌, ◌/◌, ◌%◌, ◌<◌, cond, List, IfSome, None, Ok, Err, Option, Result, ◌==◌}
+use Rattle.std.specs.Prelude.{◌≡◌, ℕ, ◌*◌, ◌/◌, ◌%◌, ◌<◌, cond, IfSome, None, Ok, Err, Option, Result, ◌==◌}
 use Rattle.cipher.specs.Model.{Model}
 use Rattle.rules.specs.declared.kind.Kind.{Kind}
 use Rattle.rules.specs.Levels.{quota}
@@ -8,7 +8,7 @@ use Rattle.rules.specs.InnerKeys.{stage}
 use Rattle.keys.specs.declared.refusals.Refusal.{Refusal}
 use Rattle.keys.specs.Stack.{Stack, on, refused, count, key, Accepted}
 use Rattle.keys.specs.Moving.{div}
-use Rattle.levels.specs.declared.maker.Inner.{Inner}
+use Rattle.levels.specs.declared.maker.Maker.{Maker}
 use Rattle.levels.specs.declared.step.Step.{Step}
 use Rattle.levels.specs.Advanced.{IsInner}
 use Rattle.levels.specs.Making.{idle_quotas}
@@ -24,24 +24,23 @@ ledgers_of (Ok t) n made low j = cond (j == n) made (low j)
 ledgers_of (Err x) n made low j = 0
 
 -- a level stands at i: its inner key and its current key are those of i
-pub record Here {T : Type 0} (c : Model) (s : Stack) (l : Kind) (t : Step) (inner : Inner T) (current : List ℕ) (i : ℕ) : Type 0 where
+pub record Here {D : Type 0} (c : Model) (s : Stack) (l : Kind) (t : Step) (made : Maker D) (i : ℕ) : Type 0 where
   pub within : i < t.count
   pub remainder_is : t.remainder ≡ i % t.quota
-  pub stage_is : inner.stage ≡ stage l (i % t.quota)
-  pub inner_is : IsInner c l (key c s (i / t.quota)) inner
-  pub current_is : current ≡ level_key c l (key c s (i / t.quota)) (i % t.quota)
+  pub stage_is : made.inner.stage ≡ stage l (i % t.quota)
+  pub inner_is : IsInner c l (key c s (i / t.quota)) made.inner
+  pub current_is : made.current ≡ level_key c l (key c s (i / t.quota)) (i % t.quota)
 
 -- an accepted level on s, which stands at `below` and has the ledgers `low`
-pub record Stands {T : Type 0} (c : Model) (s : Stack) (below : Option ℕ) (low : ℕ → ℕ) (l : Kind) (t : Step) (at : Option ℕ) (made : ℕ) (inner : Inner T)
-    (current : List ℕ) : Type 0 where
+pub record Stands {D : Type 0} (c : Model) (s : Stack) (below : Option ℕ) (low : ℕ → ℕ) (l : Kind) (t : Step) (at : Option ℕ) (made : Maker D) : Type 0 where
   pub accepted : Accepted (on l s)
   pub count_is : t.count ≡ count s * t.quota
   pub quota_is : t.quota ≡ quota l
   pub tied : below ≡ div t.quota at
-  pub fresh : at ≡ None → (made ≡ 0) × ((j : ℕ) → low j ≡ 0)
-  pub here : IfSome at (Here c s l t inner current)
+  pub fresh : at ≡ None → (made.made ≡ 0) × ((j : ℕ) → low j ≡ 0)
+  pub here : IfSome at (Here c s l t made)
 
 -- a level on s: it was accepted, or it stands nowhere
-abbrev pub Sits : {T : Type 0} → Model → Stack → Option ℕ → (ℕ → ℕ) → Kind → Result Step Refusal → Option ℕ → ℕ → Inner T → List ℕ → Type 0
-Sits c s below low l (Ok t) at made inner current = Stands c s below low l t at made inner current
-Sits c s below low l (Err x) at made inner current = at ≡ None
+abbrev pub Sits : {D : Type 0} → Model → Stack → Option ℕ → (ℕ → ℕ) → Kind → Result Step Refusal → Option ℕ → Maker D → Type 0
+Sits c s below low l (Ok t) at made = Stands c s below low l t at made
+Sits c s below low l (Err x) at made = at ≡ None

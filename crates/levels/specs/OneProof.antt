@@ -1,5 +1,5 @@
 -- That a level sits on a source can be shown in one way at most, as a ghost field asks. Assumes nothing.
-use Rattle.std.specs.Prelude.{◌≡◌, ℕ, ◌*◌, ◌/◌, ◌%◌, ◌<◌, List, IfSome, Some, None, Ok, Err, Option, Result}
+use Rattle.std.specs.Prelude.{◌≡◌, ℕ, ◌*◌, ◌/◌, ◌%◌, ◌<◌, IfSome, Some, None, Ok, Err, Option, Result}
 use Rattle.std.proofs.Props.{props}
 use Rattle.cipher.specs.Model.{Model}
 use Rattle.rules.specs.declared.kind.Kind.{Kind}
@@ -9,7 +9,7 @@ use Rattle.rules.specs.InnerKeys.{stage}
 use Rattle.keys.specs.declared.refusals.Refusal.{Refusal}
 use Rattle.keys.specs.Stack.{Stack, bottom, on, refused, count, key, Accepted}
 use Rattle.keys.specs.Moving.{div}
-use Rattle.levels.specs.declared.maker.Inner.{Inner}
+use Rattle.levels.specs.declared.maker.Maker.{Maker}
 use Rattle.levels.specs.declared.step.Step.{Step}
 use Rattle.levels.specs.Advanced.{IsInner}
 use Rattle.levels.specs.LevelState.{Here, Stands, Sits}
@@ -19,14 +19,14 @@ Accepted-prop (bottom m k w) = hlevel props
 Accepted-prop (on l s) = hlevel (props, Accepted-prop s)
 Accepted-prop (refused x qs) = hlevel props
 
-module _ {T : Type 0} (c : Model) (s : Stack) (l : Kind) (t : Step) (inner : Inner T) (current : List ℕ) where
-  Here-prop : (i : ℕ) → IsProp (Here c s l t inner current i)
+module _ {D : Type 0} (c : Model) (s : Stack) (l : Kind) (t : Step) (made : Maker D) where
+  Here-prop : (i : ℕ) → IsProp (Here c s l t made i)
   Here-prop i x y =
       let within_prop : IsProp (i < t.count) = hlevel props in
       let remainder_prop : IsProp (t.remainder ≡ i % t.quota) = hlevel props in
-      let stage_prop : IsProp (inner.stage ≡ stage l (i % t.quota)) = hlevel props in
-      let inner_prop : IsProp (IsInner c l (key c s (i / t.quota)) inner) = hlevel props in
-      let current_prop : IsProp (current ≡ level_key c l (key c s (i / t.quota)) (i % t.quota)) = hlevel props in
+      let stage_prop : IsProp (made.inner.stage ≡ stage l (i % t.quota)) = hlevel props in
+      let inner_prop : IsProp (IsInner c l (key c s (i / t.quota)) made.inner) = hlevel props in
+      let current_prop : IsProp (made.current ≡ level_key c l (key c s (i / t.quota)) (i % t.quota)) = hlevel props in
       λ k. record {
         within = within_prop x.within y.within k;
         remainder_is = remainder_prop x.remainder_is y.remainder_is k;
@@ -35,17 +35,17 @@ module _ {T : Type 0} (c : Model) (s : Stack) (l : Kind) (t : Step) (inner : Inn
         current_is = current_prop x.current_is y.current_is k;
       }
 
-  At-prop : (at : Option ℕ) → IsProp (IfSome at (Here c s l t inner current))
+  At-prop : (at : Option ℕ) → IsProp (IfSome at (Here c s l t made))
   At-prop None = hlevel props
   At-prop (Some i) = Here-prop i
 
-  Stands-prop : (below : Option ℕ) (low : ℕ → ℕ) (at : Option ℕ) (made : ℕ) → IsProp (Stands c s below low l t at made inner current)
-  Stands-prop below low at made x y =
+  Stands-prop : (below : Option ℕ) (low : ℕ → ℕ) (at : Option ℕ) → IsProp (Stands c s below low l t at made)
+  Stands-prop below low at x y =
       let accepted_prop : IsProp (Accepted (on l s)) = Accepted-prop (on l s) in
       let count_prop : IsProp (t.count ≡ count s * t.quota) = hlevel props in
       let quota_prop : IsProp (t.quota ≡ quota l) = hlevel props in
       let tied_prop : IsProp (below ≡ div t.quota at) = hlevel props in
-      let fresh_prop : IsProp (at ≡ None → (made ≡ 0) × ((j : ℕ) → low j ≡ 0)) = hlevel props in
+      let fresh_prop : IsProp (at ≡ None → (made.made ≡ 0) × ((j : ℕ) → low j ≡ 0)) = hlevel props in
       λ k. record {
         accepted = accepted_prop x.accepted y.accepted k;
         count_is = count_prop x.count_is y.count_is k;
@@ -55,7 +55,7 @@ module _ {T : Type 0} (c : Model) (s : Stack) (l : Kind) (t : Step) (inner : Inn
         here = At-prop at x.here y.here k;
       }
 
-pub Sits-prop : {T : Type 0} (c : Model) (s : Stack) (below : Option ℕ) (low : ℕ → ℕ) (l : Kind) (r : Result Step Refusal) (at : Option ℕ) (made : ℕ) (inner : Inner T) (current : List ℕ)
-    → IsProp (Sits c s below low l r at made inner current)
-Sits-prop c s below low l (Ok t) at made inner current = Stands-prop c s l t inner current below low at made
-Sits-prop c s below low l (Err x) at made inner current = hlevel props
+pub Sits-prop : {D : Type 0} (c : Model) (s : Stack) (below : Option ℕ) (low : ℕ → ℕ) (l : Kind) (r : Result Step Refusal) (at : Option ℕ) (made : Maker D)
+    → IsProp (Sits c s below low l r at made)
+Sits-prop c s below low l (Ok t) at made = Stands-prop c s l t made below low at
+Sits-prop c s below low l (Err x) at made = hlevel props

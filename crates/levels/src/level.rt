@@ -1,5 +1,5 @@
 // A level on a source of keys.
-ghost use Rattle.std.specs.Prelude.{◌≡◌, ◌<◌, not, is_some, None, Ok, MatchResult};
+ghost use Rattle.std.specs.Prelude.{◌≡◌, ◌<◌, is_none, None, Ok, MatchResult};
 ghost use Rattle.keys.specs.Stack.{levels as levels_of};
 ghost use Rattle.keys.specs.Moving.{move_refusal};
 ghost use Rattle.levels.specs.Making.{stood, AtLimit};
@@ -16,15 +16,16 @@ use rules::Kind;
 #[derive(Drop)]
 pub struct Level<C: BlockCipher, S: KeySource<C>> {
     below: S,
+    kind: Kind,
     maker: Maker<C>,
     // Its numbers, or why it was not made.
     step: Result<Step, Refusal>,
     position: Option<u32>,
-    ghost sits: { Sits C.BlockCipher.model (S.KeySource.stack below) (S.KeySource.stands below) (S.KeySource.ledgers below) maker.kind step position maker.made maker.inner maker.current } by { Sits-prop C.BlockCipher.model (S.KeySource.stack below) (S.KeySource.stands below) (S.KeySource.ledgers below) maker.kind step position maker.made maker.inner maker.current },
+    ghost sits: { Sits C.BlockCipher.model (S.KeySource.stack below) (S.KeySource.stands below) (S.KeySource.ledgers below) kind step position maker } by { Sits-prop _ _ _ _ _ _ _ _ },
 }
 
 impl<C: BlockCipher, S: KeySource<C>> KeySource<C> for Level<C, S> {
-    ghost stack = { λ s. stack_of s.step s.maker.kind (S.KeySource.stack s.below) };
+    ghost stack = { λ s. stack_of s.step s.kind (S.KeySource.stack s.below) };
 
     ghost stands = { λ s. s.position };
 
@@ -61,7 +62,7 @@ impl<C: BlockCipher, S: KeySource<C>> KeySource<C> for Level<C, S> {
     }
 
     fn renews_own_keys(&self) -> bool {
-        self.step.is_ok() && self.maker.kind.renews_own_keys()
+        self.step.is_ok() && self.kind.renews_own_keys()
     }
 
     fn note(&self) -> Result<u32, Refusal> {
@@ -79,8 +80,10 @@ impl<C: BlockCipher, S: KeySource<C>> KeySource<C> for Level<C, S> {
         let remainder = number % step.quota;
         let mut parent = [0; 32];
         self.below.move_to(number / step.quota, &mut parent)?;
-        let first = self.maker.prepare(Key::new(&parent), onward, remainder);
-        self.maker.make_through(first, remainder);
+        let first = self
+            .maker
+            .prepare(self.kind, Key::new(&parent), onward, remainder);
+        self.maker.make_through(self.kind, first, remainder);
         self.step = Ok(Step {
             count: step.count,
             quota: step.quota,
@@ -107,14 +110,15 @@ impl<C: BlockCipher, S: KeySource<C>> Level<C, S> {
 
     // Makes a level on a source. What is refused is a source all the same, without keys, and its note says why.
     pub fn stand(below: S, kind: Kind) -> Level<C, S>
-        ensures stack { ⟦<Level<C, S> as KeySource<C>>⟧.stack result ≡ stood kind (not (is_some (S.KeySource.stands below))) (S.KeySource.stack below) }
+        ensures stack { ⟦<Level<C, S> as KeySource<C>>⟧.stack result ≡ stood kind (is_none (S.KeySource.stands below)) (S.KeySource.stack below) }
         ensures stands { ⟦<Level<C, S> as KeySource<C>>⟧.stands result ≡ None }
         ensures limit { levels_of (S.KeySource.stack below) ≡ 256 → AtLimit (S.KeySource.stack below) (⟦<Level<C, S> as KeySource<C>>⟧.stack result) }
     {
         let step = Step::settle::<C, S>(&below, kind);
         Level {
             below,
-            maker: Maker::new(kind),
+            kind,
+            maker: Maker::new(),
             step,
             position: None,
         }

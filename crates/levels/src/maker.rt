@@ -16,22 +16,19 @@ pub(crate) struct Inner<C: BlockCipher> {
     pub stage: u32,
 }
 
-// Makes a level's keys, and counts them.
+// Makes a level's keys by its kind, and counts them.
 #[derive(Drop)]
 pub(crate) struct Maker<C: BlockCipher> {
-    pub kind: Kind,
     pub inner: Inner<C>,
     pub current: Key<C>,
     pub made: u32,
 }
 
 impl<C: BlockCipher> Maker<C> {
-    pub(crate) fn new(kind: Kind) -> Maker<C>
-        ensures kind { result.kind ≡ kind }
-        ensures made { result.made ≡ 0 }
+    pub(crate) fn new() -> Maker<C>
+        ensures { result.made ≡ 0 }
     {
         Maker {
-            kind,
             inner: Inner {
                 key: Key::new(&[0; 32]),
                 stage: 0,
@@ -42,64 +39,66 @@ impl<C: BlockCipher> Maker<C> {
     }
 
     // Replaces the inner key until it is the one for a remainder.
-    fn advance(&mut self, remainder: u32)
-        ensures kind { self.new.kind ≡ self.old.kind }
+    fn advance(&mut self, kind: Kind, remainder: u32)
         ensures made { self.new.made ≡ self.old.made }
-        ensures inner { Advanced C.BlockCipher.model self.old.kind remainder remainder self.old.inner self.new.inner }
+        ensures inner { Advanced C.BlockCipher.model kind remainder remainder self.old.inner self.new.inner }
     {
-        let stage = self.kind.stage(remainder);
-        while self.inner.stage < stage {
-            self.inner.key = self.kind.step(&self.inner.key);
-            self.inner.stage += 1;
+        for stage in self.inner.stage..kind.stage(remainder) {
+            self.inner = Inner {
+                key: kind.step(&self.inner.key),
+                stage: stage + 1,
+            };
         }
     }
 
     // Makes one key given out, and counts it: nothing else does either.
-    fn make(&mut self, remainder: u32)
-        ensures kind { self.new.kind ≡ self.old.kind }
+    fn make(&mut self, kind: Kind, remainder: u32)
         ensures made { self.new.made ≡ capped (self.old.made + 1) }
-        ensures inner { Advanced C.BlockCipher.model self.old.kind remainder remainder self.old.inner self.new.inner }
-        ensures key { self.new.current ≡ given C.BlockCipher.model self.old.kind self.new.inner.key remainder }
+        ensures inner { Advanced C.BlockCipher.model kind remainder remainder self.old.inner self.new.inner }
+        ensures key { self.new.current ≡ given C.BlockCipher.model kind self.new.inner.key remainder }
     {
-        self.advance(remainder);
-        self.current = self.kind.key(&self.inner.key, remainder);
+        self.advance(kind, remainder);
+        self.current = kind.key(&self.inner.key, remainder);
         self.made = self.made.saturating_add(1);
     }
 
     // Makes the keys of the remainders from the first to the last.
-    pub(crate) fn make_through(&mut self, first: u32, last: u32)
+    pub(crate) fn make_through(&mut self, kind: Kind, first: u32, last: u32)
         requires { first ≤ last }
-        ensures kind { self.new.kind ≡ self.old.kind }
         ensures made { self.new.made ≡ capped (self.old.made + (suc last - first)) }
-        ensures inner { Advanced C.BlockCipher.model self.old.kind first last self.old.inner self.new.inner }
-        ensures key { self.new.current ≡ given C.BlockCipher.model self.old.kind self.new.inner.key last }
+        ensures inner { Advanced C.BlockCipher.model kind first last self.old.inner self.new.inner }
+        ensures key { self.new.current ≡ given C.BlockCipher.model kind self.new.inner.key last }
     {
         for remainder in first..last {
-            self.make(remainder);
+            self.make(kind, remainder);
         }
-        self.make(last);
+        self.make(kind, last);
     }
 
     // Goes on from the inner key that it has, or begins with the key below; tells the first remainder whose
     // key is to be made on the way to the last. Only inner keys that are given out count.
-    pub(crate) fn prepare(&mut self, parent: Key<C>, onward: Option<u32>, last: u32) -> u32
+    pub(crate) fn prepare(
+        &mut self,
+        kind: Kind,
+        parent: Key<C>,
+        onward: Option<u32>,
+        last: u32,
+    ) -> u32
         requires { (r : ℕ) → onward ≡ Some r → r < last }
-        ensures kind { self.new.kind ≡ self.old.kind }
         ensures made { self.new.made ≡ self.old.made }
-        ensures first { result ≡ first_of (renews_own self.old.kind) onward last }
+        ensures first { result ≡ first_of (renews_own kind) onward last }
         ensures inner { MatchOption onward
             ((self.new.inner.key ≡ parent) × (self.new.inner.stage ≡ 0))
             (λ _. self.new.inner ≡ self.old.inner) }
     {
-        let Some(from) = onward else {
+        if onward.is_none() {
             self.inner = Inner {
                 key: parent,
                 stage: 0,
             };
-            return if self.kind.renews_own_keys() { 0 } else { last };
-        };
-        if self.kind.renews_own_keys() {
-            from + 1
+        }
+        if kind.renews_own_keys() {
+            onward.map_or(0, |from| from + 1)
         } else {
             last
         }

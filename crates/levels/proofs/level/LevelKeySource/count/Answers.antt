@@ -5,5 +5,4 @@ pub returns-clause-facts : goal.returns-clause-facts
 returns-clause-facts g c =
     let S = g.S.KeySource in
     let self = c.args.self.now in
-    let l = self.maker.kind in
-    facts_of g.C.BlockCipher.model (S.stack self.below) (S.stands self.below) (S.ledgers self.below) l self.step self.position self.maker.made self.maker.inner self.maker.current self.sits
+    facts_of g.C.BlockCipher.model (S.stack self.below) (S.stands self.below) (S.ledgers self.below) self.kind self.step self.position self.maker self.sits
