@@ -7,26 +7,10 @@ ghost use Rattle.vectors.specs.Answers.{repeated, done, answered, Answers};
 use crate::kinds::{CipherName, Request, Task};
 use crate::request::parse;
 use aes::Aes256;
-use cipher::{BlockBuffer, BlockCipher, KeyBuffer, renew};
+use cipher::{BlockCipher, KeyBuffer, renew};
 use magma::Magma;
 use std::alloc::{AllocError, Global};
 use text::to_hex;
-
-// The block enciphered under the key.
-fn enciphered<C: BlockCipher>(key: &KeyBuffer, mut block: BlockBuffer) -> BlockBuffer
-    ensures { take C.BlockCipher.model.block result ≡ C.BlockCipher.model.enc (take C.BlockCipher.model.key key.now) (take C.BlockCipher.model.block block) }
-{
-    C::schedule(key).encipher(&mut block);
-    block
-}
-
-// The block deciphered under the key.
-fn deciphered<C: BlockCipher>(key: &KeyBuffer, mut block: BlockBuffer) -> BlockBuffer
-    ensures { take C.BlockCipher.model.block result ≡ C.BlockCipher.model.dec (take C.BlockCipher.model.key key.now) (take C.BlockCipher.model.block block) }
-{
-    C::schedule(key).decipher(&mut block);
-    block
-}
 
 // The key renewed so many times.
 fn renewed<C: BlockCipher>(key: &KeyBuffer, times: u32) -> KeyBuffer
@@ -43,11 +27,16 @@ fn renewed<C: BlockCipher>(key: &KeyBuffer, times: u32) -> KeyBuffer
 fn perform<C: BlockCipher>(heap: Global, key: &KeyBuffer, task: Task) -> Result<String, AllocError>
     ensures { IfOk result (λ s. string_bytes s ≡ encoded (done C.BlockCipher.model key.now task)) }
 {
-    let (k, n) = (C::key_len(), C::block_len());
     match task {
-        Task::Encipher(block) => to_hex(heap, &enciphered::<C>(key, block)[0..n]),
-        Task::Decipher(block) => to_hex(heap, &deciphered::<C>(key, block)[0..n]),
-        Task::Renew(times) => to_hex(heap, &renewed::<C>(key, times)[0..k]),
+        Task::Encipher(mut block) => {
+            C::schedule(key).encipher(&mut block);
+            to_hex(heap, &block[..C::block_len()])
+        }
+        Task::Decipher(mut block) => {
+            C::schedule(key).decipher(&mut block);
+            to_hex(heap, &block[..C::block_len()])
+        }
+        Task::Renew(times) => to_hex(heap, &renewed::<C>(key, times)[..C::key_len()]),
     }
 }
 

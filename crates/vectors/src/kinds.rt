@@ -114,18 +114,18 @@ impl fmt::Display for Fault {
     ghost output = { λ f. Some (message f) };
 
     fn fmt<W: fmt::Write>(&self, f: &mut fmt::Formatter<W>) -> fmt::Result {
-        match self {
-            Fault::LongLine => f.write_str("error: line too long"),
-            Fault::UnknownRequest => f.write_str("error: unknown request"),
-            Fault::WordCount => f.write_str("error: wrong number of words"),
-            Fault::UnknownCipher => f.write_str("error: unknown cipher"),
-            Fault::Hexadecimal => f.write_str("error: bad hexadecimal"),
-            Fault::KeyLength => f.write_str("error: wrong key length"),
-            Fault::BlockLength => f.write_str("error: wrong block length"),
-            Fault::Number => f.write_str("error: bad number"),
-            Fault::Range => f.write_str("error: number out of range"),
-            Fault::Memory => f.write_str("error: no memory"),
-        }
+        f.write_str(match self {
+            Fault::LongLine => "error: line too long",
+            Fault::UnknownRequest => "error: unknown request",
+            Fault::WordCount => "error: wrong number of words",
+            Fault::UnknownCipher => "error: unknown cipher",
+            Fault::Hexadecimal => "error: bad hexadecimal",
+            Fault::KeyLength => "error: wrong key length",
+            Fault::BlockLength => "error: wrong block length",
+            Fault::Number => "error: bad number",
+            Fault::Range => "error: number out of range",
+            Fault::Memory => "error: no memory",
+        })
     }
 }
 
