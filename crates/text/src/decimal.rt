@@ -1,4 +1,4 @@
-// Numbers written in decimal digits.
+// Numbers written in decimal digits. The library's `parse` takes a sign too, so it is not used.
 ghost use Rattle.text.specs.Numerals.{IsNumeral};
 
 // The number that the digits spell; none where there is no digit, another character, or a number past 32 bits.

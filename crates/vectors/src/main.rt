@@ -9,12 +9,13 @@ ghost use Rattle.std.specs.Prelude.{◌≡◌, [], OnOk};
 ghost use Rattle.vectors.specs.Lines.{kept};
 
 use answer::answer;
+use request::LONGEST_LINE;
 use std::alloc::AllocError;
 use std::io;
 use std::io::{BufReader, Read};
 
 // A line is kept up to one byte past the longest that can be a request.
-const KEPT: usize = 4097;
+const KEPT: usize = LONGEST_LINE + 1;
 
 // Adds a byte to a line; what goes past the kept length is let go.
 fn keep(line: &mut Vec<u8>, byte: u8) -> Result<(), AllocError>

@@ -8,7 +8,7 @@ use cipher::{BlockBuffer, KeyBuffer};
 use std::alloc::Global;
 use text::{from_decimal, from_hex, split_words};
 
-const LONGEST_LINE: usize = 4096;
+pub const LONGEST_LINE: usize = 4096;
 
 const MOST_RENEWALS: u32 = 4096;
 
@@ -75,12 +75,11 @@ fn read_fields(
 }
 
 // The request that the words of a line make.
-fn read(heap: Global, words: &[&[u8]]) -> Result<Request, Fault>
-    requires { 0 < length words.now }
-    ensures { Read (map (λ x. x.now) words.now) result }
+fn read(heap: Global, action: &[u8], fields: &[&[u8]]) -> Result<Request, Fault>
+    ensures { Read (action.now ∷ map (λ x. x.now) fields.now) result }
 {
-    let action = Action::try_from(words[0])?;
-    let [_, cipher, key, last] = words else {
+    let action = Action::try_from(action)?;
+    let [cipher, key, last] = fields else {
         return Err(Fault::WordCount);
     };
     read_fields(heap, action, cipher, key, last)
@@ -94,5 +93,8 @@ pub fn parse(heap: Global, line: &[u8]) -> Result<Request, Fault>
         return Err(Fault::LongLine);
     }
     let words = split_words(heap, line)?;
-    read(heap, words.as_slice())
+    let Some((action, fields)) = words.split_first() else {
+        unreachable!();
+    };
+    read(heap, action, fields)
 }
