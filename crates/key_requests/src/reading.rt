@@ -11,16 +11,12 @@ use text::{from_decimal, from_hex, is};
 fn axis_stack(word: &[u8]) -> Option<AxisStack>
     ensures { IsAxisStack word.now result }
 {
-    if is(word, "1") {
-        Some(AxisStack::Chain)
-    } else if is(word, "2") {
-        Some(AxisStack::Master)
-    } else if is(word, "3") {
-        Some(AxisStack::SerialChain)
-    } else if is(word, "4") {
-        Some(AxisStack::FanFanChain)
-    } else {
-        None
+    match word {
+        b"1" => Some(AxisStack::Chain),
+        b"2" => Some(AxisStack::Master),
+        b"3" => Some(AxisStack::SerialChain),
+        b"4" => Some(AxisStack::FanFanChain),
+        _ => None,
     }
 }
 
@@ -40,23 +36,23 @@ fn on_axis(stack: AxisStack, axis: u32) -> Plan
 fn master_period(word: &[u8]) -> Option<u32>
     ensures { IsMaster word.now result }
 {
-    let digits = word.strip_prefix("master:".as_bytes())?;
+    let digits = word.strip_prefix(b"master:")?;
     from_decimal(digits)
 }
 
 // The stack with no axis that a word names.
+#[tactic(auto, using(crate::proofs::Words::long_word))]
 fn root_stack(word: &[u8]) -> Option<Plan>
     ensures { IsRootStack word.now result }
 {
-    if is(word, "fan") {
-        Some(Plan::OneFan)
-    } else if is(word, "serial") {
-        Some(Plan::OneSerial)
-    } else if is(word, "chain") {
-        Some(Plan::OneChain)
-    } else {
-        let period = master_period(word)?;
-        Some(Plan::OneMaster(period))
+    if let Some(period) = master_period(word) {
+        return Some(Plan::OneMaster(period));
+    }
+    match word {
+        b"fan" => Some(Plan::OneFan),
+        b"serial" => Some(Plan::OneSerial),
+        b"chain" => Some(Plan::OneChain),
+        _ => None,
     }
 }
 
@@ -73,9 +69,7 @@ fn read_plan(stack: &[u8], axis: &[u8]) -> Result<Plan, KeyFault>
     if let Some(stack) = axis_stack(stack) {
         return Ok(on_axis(stack, read_number(axis)?));
     }
-    let Some(plan) = root_stack(stack) else {
-        return Err(KeyFault::Stack);
-    };
+    let plan = root_stack(stack).ok_or(KeyFault::Stack)?;
     if !is(axis, "-") {
         return Err(KeyFault::Axis);
     }

@@ -25,7 +25,7 @@ pub struct KeyWords<'a> {
 }
 
 // The stacks that stand on the branch of an axis.
-#[derive(Clone, Copy)]
+#[derive(Clone, Copy, Debug, PartialEq, Eq)]
 pub enum AxisStack {
     Chain,
     Master,
@@ -34,7 +34,7 @@ pub enum AxisStack {
 }
 
 // Why words are no request for a key, or that there is no memory to tell.
-#[derive(Clone, Copy)]
+#[derive(Clone, Copy, Debug, PartialEq, Eq)]
 pub enum KeyFault {
     Stack,
     Axis,

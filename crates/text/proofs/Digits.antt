@@ -13,6 +13,8 @@ pub spelled_more : (a i : ℕ) (text : List ℕ) → i < length text
     → spelled a (drop i text) ≡ spelled (a * 10 + (get_or text i 0 - 48)) (drop (i + 1) text)
 spelled_more a i text h = at_drop_more (spelled a) text i 0 h
 
--- digits that have come past 32 bits already
-pub too_large : (text rest : List ℕ) (a : ℕ) → 2 ^ 32 ≤ a → spelled a rest ≡ spelled 0 text → (t : ℕ) → Numeral text t → ⊥
-too_large text rest a h e t n = omega (arith, spelled_least a rest, n.value, n.fits)
+-- digits that come past 32 bits with the next one
+pub too_large : (text : List ℕ) (a i : ℕ) → i < length text → 2 ^ 32 ≤ a * 10 + (get_or text i 0 - 48)
+    → spelled a (drop i text) ≡ spelled 0 text → (t : ℕ) → Numeral text t → ⊥
+too_large text a i h large e t n =
+    omega (arith, spelled_more a i text h, spelled_least (a * 10 + (get_or text i 0 - 48)) (drop (i + 1) text), n.value, n.fits)

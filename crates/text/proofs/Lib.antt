@@ -1,3 +1,3 @@
-pub mod Pairs
 pub mod Digits
+pub mod Encoding
 pub mod Spacing

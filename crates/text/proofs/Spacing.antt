@@ -1,41 +1,50 @@
 -- Lines and their words. Assumes nothing.
-use Rattle.std.proofs.Common.{◌≡◌, ℕ, List, [], ◌∷◌, ◌++◌, sym, refl, ap, ◌∙◌, arith}
-use Rattle.std.specs.List.{AllByRecursion}
-use Rattle.text.specs.Words.{Word, spaced, Words}
+use Rattle.std.proofs.Common.{◌≡◌, ℕ, ◌==◌, Bool, false, List, [], ◌∷◌, sym, refl, ap, ◌∙◌, inl, inr, arith}
+use Rattle.std.specs.List.{AllByRecursion, slice_split, onto_first}
+use Rattle.std.proofs.lemmas.Bool.{cases_eq}
+use Rattle.std.proofs.lemmas.List.Elements.{All-from_recursion}
+use Rattle.std.proofs.lemmas.List.Splits.{slice_split-cons_yes, slice_split-cons_no, slice_split_none, slice_split_at, join_with_byte-slice_split}
+use Rattle.text.specs.Words.{Word, spaced, TheWords}
 
--- a line of one word
-pub words_one : (text : List ℕ) → Word text → Words text (text ∷ [])
-words_one text h = record { whole = refl; some = λ e. let z : ◌≡◌ {A = ℕ} 0 1 = cc in omega arith; words = (h, tt) }
+abbrev pub blank : ℕ → Bool
+blank c = c == 32
 
--- where the first blank stands is settled
-word_same : (w v a b : List ℕ) → Word w → Word v → w ++ 32 ∷ a ≡ v ++ 32 ∷ b → (w ≡ v) × (a ≡ b)
-word_same [] [] a b p q e = (refl, cc)
-word_same [] (y ∷ v) a b p q e = absurd (q.0 (cc))
-word_same (x ∷ w) [] a b p q e = absurd (p.0 (cc))
-word_same (x ∷ w) (y ∷ v) a b p q e =
-    let tail : w ++ 32 ∷ a ≡ v ++ 32 ∷ b = cc in
-    let head : x ≡ y = cc in
-    let more = word_same w v a b p.1 q.1 tail in
-    ((λ i. head i ∷ more.0 i), more.1)
+not_blank : (w : List ℕ) → Word w → AllByRecursion (λ c. blank c ≡ false) w
+not_blank [] h = tt
+not_blank (x ∷ w) h = (grind arith, not_blank w h.1)
 
--- a word has no blank
-no_blank : (w v a : List ℕ) → Word w → w ≡ v ++ 32 ∷ a → ⊥
-no_blank [] [] a h e = let z : ◌≡◌ {A = ℕ} 0 1 = cc in omega arith
-no_blank [] (y ∷ v) a h e = let z : ◌≡◌ {A = ℕ} 0 1 = cc in omega arith
-no_blank (x ∷ w) [] a h e = h.0 (cc)
-no_blank (x ∷ w) (y ∷ v) a h e = let tail : w ≡ v ++ 32 ∷ a = cc in no_blank w v a h.1 tail
+-- words with blanks between, split at the blanks
+split_spaced : (ws : List (List ℕ)) → AllByRecursion Word ws → (ws ≡ [] → ⊥) → slice_split blank (spaced ws) ≡ ws
+split_spaced [] h some = absurd (some refl)
+split_spaced (w ∷ []) h some = slice_split_none blank w (All-from_recursion _ w (not_blank w h.0))
+split_spaced (w ∷ v ∷ ws) h some =
+    slice_split_at blank w 32 (spaced (v ∷ ws)) (All-from_recursion _ w (not_blank w h.0)) refl
+    ∙ ap (λ vs. w ∷ vs) (split_spaced (v ∷ ws) h.1 (λ e. cc e))
 
-same : (ws vs : List (List ℕ)) → AllByRecursion Word ws → AllByRecursion Word vs → (ws ≡ [] → ⊥) → (vs ≡ [] → ⊥) → spaced ws ≡ spaced vs → ws ≡ vs
-same [] vs p q m n e = absurd (m refl)
-same (w ∷ ws) [] p q m n e = absurd (n refl)
-same (w ∷ []) (v ∷ []) p q m n e = ap (λ x. x ∷ []) e
-same (w ∷ []) (v ∷ y ∷ vs) p q m n e = absurd (no_blank w v (spaced (y ∷ vs)) p.0 e)
-same (w ∷ x ∷ ws) (v ∷ []) p q m n e = absurd (no_blank v w (spaced (x ∷ ws)) q.0 (sym e))
-same (w ∷ x ∷ ws) (v ∷ y ∷ vs) p q m n e =
-    let t = word_same w v (spaced (x ∷ ws)) (spaced (y ∷ vs)) p.0 q.0 e in
-    let more = same (x ∷ ws) (y ∷ vs) p.1 q.1 (λ d. let z : ◌≡◌ {A = ℕ} 0 1 = cc in omega arith) (λ d. let z : ◌≡◌ {A = ℕ} 0 1 = cc in omega arith) t.1 in
-    λ i. t.0 i ∷ more i
+-- a character more in front of the first word
+words_onto : (x : ℕ) (ws : List (List ℕ)) → (x ≡ 32 → ⊥) → AllByRecursion Word ws → AllByRecursion Word (onto_first x ws)
+words_onto x [] ne h = ((ne, tt), tt)
+words_onto x (w ∷ ws) ne h = ((ne, h.0), h.1)
 
--- a line has one list of words
-pub words_same : (line : List ℕ) (ws vs : List (List ℕ)) → Words line ws → Words line vs → ws ≡ vs
-words_same line ws vs p q = same ws vs p.words q.words p.some q.some (sym p.whole ∙ q.whole)
+some_onto : (x : ℕ) (ws : List (List ℕ)) → onto_first x ws ≡ [] → ⊥
+some_onto x [] e = cc e
+some_onto x (w ∷ ws) e = cc e
+
+-- each part is a word, and there is one
+parts_are_words : (line : List ℕ) → AllByRecursion Word (slice_split blank line) × (slice_split blank line ≡ [] → ⊥)
+parts_are_words [] = ((tt, tt), λ e. cc e)
+parts_are_words (x ∷ xs) =
+    let more = parts_are_words xs in
+    elim (cases_eq x 32) [
+      | inl e ↦ rw (slice_split-cons_yes blank x xs (rw e refl)) ((tt, more.0), λ d. cc d)
+      | inr ne ↦ rw (slice_split-cons_no blank x xs (grind arith)) (words_onto x _ ne more.0, some_onto x _)
+    ]
+
+-- the parts of a line are its words, and it has no others
+pub the_words : (line : List ℕ) (ws : List (List ℕ)) → ws ≡ slice_split blank line → TheWords line ws
+the_words line ws e =
+    let parts = parts_are_words line in
+    rw e (record {
+      are = record { whole = sym (join_with_byte-slice_split 32 line); some = parts.1; words = parts.0 };
+      only = λ vs h. sym (split_spaced vs h.words h.some) ∙ ap (slice_split blank) (sym h.whole);
+    })

@@ -15,10 +15,6 @@ pub record Spells (text bytes : List ℕ) : Type 0 where
   pub high : (k : ℕ) → k < length bytes → Digit (slice_index text (2 * k)) (slice_index bytes k / 16)
   pub low : (k : ℕ) → k < length bytes → Digit (slice_index text (2 * k + 1)) (slice_index bytes k % 16)
 
-abbrev pub IsDigit : ℕ → Result ℕ HexFault → Type 0
-IsDigit c (Ok v) = Digit c v
-IsDigit c (Err f) = (f ≡ Digits) × ((v : ℕ) → Digit c v → ⊥)
-
 -- what the reading of a text answers
 abbrev pub Decoded : List ℕ → Result (Vec ℕ Global) HexFault → Type 0
 Decoded text (Ok v) = Spells text (vec_items v)

@@ -1,7 +1,6 @@
 -- A line and its words. Assumes nothing.
-use Rattle.std.specs.Prelude.{◌≡◌, ℕ, List, [], ◌∷◌, ◌++◌, Some, None, Option, ◌≢◌}
-use Rattle.std.specs.Borrow.{Bor}
-use Rattle.std.specs.List.{AllByRecursion}
+use Rattle.std.specs.Prelude.{◌≡◌, ℕ, List, [], ◌≢◌}
+use Rattle.std.specs.List.{AllByRecursion, join_with_byte}
 
 -- a text without a blank
 abbrev pub Word : List ℕ → Type 0
@@ -9,9 +8,7 @@ Word = AllByRecursion (λ c. c ≢ 32)
 
 -- texts with one blank between
 abbrev pub spaced : List (List ℕ) → List ℕ
-spaced [] = []
-spaced (w ∷ []) = w
-spaced (w ∷ v ∷ ws) = w ++ 32 ∷ spaced (v ∷ ws)
+spaced = join_with_byte 32
 
 -- the words of a line: at least one, though it may be empty
 pub record Words (line : List ℕ) (ws : List (List ℕ)) : Type 0 where
@@ -23,8 +20,3 @@ pub record Words (line : List ℕ) (ws : List (List ℕ)) : Type 0 where
 pub record TheWords (line : List ℕ) (ws : List (List ℕ)) : Type 0 where
   pub are : Words line ws
   pub only : (vs : List (List ℕ)) → Words line vs → vs ≡ ws
-
--- a text cut at its first blank
-abbrev pub Cut : List ℕ → Option (Bor (List ℕ) × Bor (List ℕ)) → Type 0
-Cut text (Some p) = (text ≡ p.0.now ++ 32 ∷ p.1.now) × Word p.0.now
-Cut text None = Word text

@@ -1,10 +1,10 @@
 // Why a text gives no bytes.
 ghost use Rattle.std.specs.Prelude.{◌≡◌};
-ghost use Rattle.text.specs.declared.fault.HexFault.TheVariants.{Memory as no_memory};
+ghost use Rattle.text.specs.Faults.{of_error};
 
-use std::alloc::AllocFailed;
+use hex::FromHexError;
 
-#[derive(Clone, Copy)]
+#[derive(Clone, Copy, Debug, PartialEq, Eq)]
 pub enum HexFault {
     // A character is no digit, or one digit is left over.
     Digits,
@@ -12,10 +12,13 @@ pub enum HexFault {
     Memory,
 }
 
-impl<T: Drop> From<AllocFailed<T>> for HexFault {
-    ghost from_gives = { λ _ f. f ≡ no_memory };
+impl From<FromHexError> for HexFault {
+    ghost from_gives = { λ e f. f ≡ of_error e };
 
-    fn from(_refused: AllocFailed<T>) -> HexFault {
-        HexFault::Memory
+    fn from(error: FromHexError) -> HexFault {
+        match error {
+            FromHexError::OutOfMemory => HexFault::Memory,
+            _ => HexFault::Digits,
+        }
     }
 }

@@ -1,5 +1,5 @@
 -- Which line is which request, and what is the matter with a line that is none. Assumes nothing.
-use Rattle.std.specs.Prelude.{◌≡◌, ℕ, ◌-◌, ◌<◌, ◌≤◌, ◌⊎◌, List, [], ◌∷◌, length, take, drop, replicate, Some, None, Ok, Err, codes, Option, Result, ◌≢◌}
+use Rattle.std.specs.Prelude.{◌≡◌, ℕ, ◌-◌, ◌<◌, ◌≤◌, ◌⊎◌, List, [], ◌∷◌, length, take, drop, replicate, Ok, Err, codes, Result, ◌≢◌}
 use Rattle.text.specs.Hex.{Spells}
 use Rattle.vectors.specs.Ciphers.{model_of}
 use Rattle.text.specs.Words.{Words}
@@ -23,13 +23,14 @@ abbrev pub cipher_word : CipherName → List ℕ
 cipher_word Aes256 = codes "aes256"
 cipher_word Magma = codes "magma"
 
-abbrev pub IsAction : List ℕ → Option Action → Type 0
-IsAction word (Some a) = word ≡ action_word a
-IsAction word None = (a : Action) → word ≢ action_word a
+-- what the reading of a first word, and of a cipher's name, answers
+abbrev pub ActionRead : List ℕ → Result Action Fault → Type 0
+ActionRead word (Ok a) = word ≡ action_word a
+ActionRead word (Err f) = (f ≡ UnknownRequest) × ((a : Action) → word ≢ action_word a)
 
-abbrev pub IsCipher : List ℕ → Option CipherName → Type 0
-IsCipher word (Some c) = word ≡ cipher_word c
-IsCipher word None = (c : CipherName) → word ≢ cipher_word c
+abbrev pub CipherRead : List ℕ → Result CipherName Fault → Type 0
+CipherRead word (Ok c) = word ≡ cipher_word c
+CipherRead word (Err f) = (f ≡ UnknownCipher) × ((c : CipherName) → word ≢ cipher_word c)
 
 -- the digits spell n bytes at the front of a buffer, and zeros follow them
 abbrev pub SpellsFront : ℕ → ℕ → List ℕ → List ℕ → Type 0
@@ -52,19 +53,10 @@ NotLong n text = (bytes : List ℕ) × Spells text bytes × (length bytes ≢ n)
 abbrev pub BytesFault : Fault → ℕ → List ℕ → Fault → Type 0
 BytesFault wrong n text f = ((f ≡ Hexadecimal) × NoBytes text) ⊎ ((f ≡ wrong) × NotLong n text) ⊎ (f ≡ Memory)
 
--- what the reading of a word answers: n bytes into a buffer, a key, a block, a number of renewals
-abbrev pub BytesRead : List ℕ → Fault → List ℕ → List ℕ → Result (Unit {0}) Fault → Type 0
-BytesRead text wrong before after (Ok u) = Spells text after
-BytesRead text wrong before after (Err f) =
-    (after ≡ before) × (((f ≡ Hexadecimal) × NoBytes text) ⊎ ((f ≡ wrong) × NotLong (length before) text) ⊎ (f ≡ Memory))
-
-abbrev pub KeyRead : CipherName → List ℕ → Result (List ℕ) Fault → Type 0
-KeyRead c text (Ok key) = SpellsKey c text key
-KeyRead c text (Err f) = BytesFault KeyLength (model_of c).key text f
-
-abbrev pub BlockRead : CipherName → List ℕ → Result (List ℕ) Fault → Type 0
-BlockRead c text (Ok block) = SpellsBlock c text block
-BlockRead c text (Err f) = BytesFault BlockLength (model_of c).block text f
+-- what the reading of a word answers: n bytes at the front of a buffer, a number of renewals
+abbrev pub FrontRead : ℕ → ℕ → Fault → List ℕ → Result (List ℕ) Fault → Type 0
+FrontRead room n wrong text (Ok buffer) = SpellsFront room n text buffer
+FrontRead room n wrong text (Err f) = BytesFault wrong n text f
 
 abbrev pub TimesFault : List ℕ → Fault → Type 0
 TimesFault text f = ((f ≡ Number) × ((n : ℕ) → Numeral text n → ⊥)) ⊎ ((f ≡ Range) × ((n : ℕ) × Numeral text n × (4096 < n)))
@@ -78,13 +70,13 @@ abbrev pub Four : List (List ℕ) → Action → CipherName → List ℕ → Lis
 Four ws a c key last = ws ≡ action_word a ∷ cipher_word c ∷ key ∷ last ∷ []
 
 -- the words are those of the request
-abbrev pub AsksTask : List (List ℕ) → CipherName → Task → Type 0
-AsksTask ws c (Encipher key block) = (k b : List ℕ) × Four ws enciphering c k b × SpellsKey c k key × SpellsBlock c b block
-AsksTask ws c (Decipher key block) = (k b : List ℕ) × Four ws deciphering c k b × SpellsKey c k key × SpellsBlock c b block
-AsksTask ws c (Renew key times) = (k t : List ℕ) × Four ws renewing c k t × SpellsKey c k key × Numeral t times × (times ≤ 4096)
+abbrev pub AsksTask : List (List ℕ) → CipherName → List ℕ → Task → Type 0
+AsksTask ws c key (Encipher block) = (k b : List ℕ) × Four ws enciphering c k b × SpellsKey c k key × SpellsBlock c b block
+AsksTask ws c key (Decipher block) = (k b : List ℕ) × Four ws deciphering c k b × SpellsKey c k key × SpellsBlock c b block
+AsksTask ws c key (Renew times) = (k t : List ℕ) × Four ws renewing c k t × SpellsKey c k key × Numeral t times × (times ≤ 4096)
 
 abbrev pub Asks : List (List ℕ) → Request → Type 0
-Asks ws r = AsksTask ws r.cipher r.task
+Asks ws r = AsksTask ws r.cipher r.key r.task
 
 -- the words ask for a block, with a key that is in order; or for a renewed key
 abbrev pub BlockAsked : List (List ℕ) → CipherName → List ℕ → Type 0

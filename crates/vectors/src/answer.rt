@@ -2,31 +2,15 @@
 ghost use Rattle.std.specs.Prelude.{◌≡◌, take, IfOk, string_bytes};
 ghost use Rattle.cipher.specs.Derivation.{renewed as renewed_of};
 ghost use Rattle.text.specs.Hex.{encoded};
-ghost use Rattle.vectors.specs.Answers.{repeated, done, answered, message as message_of, Answers};
+ghost use Rattle.vectors.specs.Answers.{repeated, done, answered, Answers};
 
-use crate::kinds::{CipherName, Fault, Request, Task};
+use crate::kinds::{CipherName, Request, Task};
 use crate::request::parse;
 use aes::Aes256;
-use cipher::{BlockBuffer, BlockCipher, KeyBuffer, renew};
+use cipher::{BlockCipher, KeyBuffer, renew};
 use magma::Magma;
 use std::alloc::{AllocError, Global};
 use text::to_hex;
-
-// The block enciphered under the key.
-fn enciphered<C: BlockCipher>(key: &KeyBuffer, mut block: BlockBuffer) -> BlockBuffer
-    ensures { take C.BlockCipher.model.block result ≡ C.BlockCipher.model.enc (take C.BlockCipher.model.key key.now) (take C.BlockCipher.model.block block) }
-{
-    C::schedule(key).encipher(&mut block);
-    block
-}
-
-// The block deciphered under the key.
-fn deciphered<C: BlockCipher>(key: &KeyBuffer, mut block: BlockBuffer) -> BlockBuffer
-    ensures { take C.BlockCipher.model.block result ≡ C.BlockCipher.model.dec (take C.BlockCipher.model.key key.now) (take C.BlockCipher.model.block block) }
-{
-    C::schedule(key).decipher(&mut block);
-    block
-}
 
 // The key renewed so many times.
 fn renewed<C: BlockCipher>(key: &KeyBuffer, times: u32) -> KeyBuffer
@@ -39,15 +23,20 @@ fn renewed<C: BlockCipher>(key: &KeyBuffer, times: u32) -> KeyBuffer
     last
 }
 
-// The digits of what is to be done.
-fn perform<C: BlockCipher>(heap: Global, task: Task) -> Result<String, AllocError>
-    ensures { IfOk result (λ s. string_bytes s ≡ encoded (done C.BlockCipher.model task)) }
+// The digits of what is to be done under a key.
+fn perform<C: BlockCipher>(heap: Global, key: &KeyBuffer, task: Task) -> Result<String, AllocError>
+    ensures { IfOk result (λ s. string_bytes s ≡ encoded (done C.BlockCipher.model key.now task)) }
 {
-    let (k, n) = (C::key_len(), C::block_len());
     match task {
-        Task::Encipher(key, block) => to_hex(heap, &enciphered::<C>(&key, block)[0..n]),
-        Task::Decipher(key, block) => to_hex(heap, &deciphered::<C>(&key, block)[0..n]),
-        Task::Renew(key, times) => to_hex(heap, &renewed::<C>(&key, times)[0..k]),
+        Task::Encipher(mut block) => {
+            C::schedule(key).encipher(&mut block);
+            to_hex(heap, &block[..C::block_len()])
+        }
+        Task::Decipher(mut block) => {
+            C::schedule(key).decipher(&mut block);
+            to_hex(heap, &block[..C::block_len()])
+        }
+        Task::Renew(times) => to_hex(heap, &renewed::<C>(key, times)[..C::key_len()]),
     }
 }
 
@@ -55,27 +44,10 @@ fn perform<C: BlockCipher>(heap: Global, task: Task) -> Result<String, AllocErro
 fn carry_out(heap: Global, request: Request) -> Result<String, AllocError>
     ensures { IfOk result (λ s. string_bytes s ≡ encoded (answered request)) }
 {
-    match request.cipher {
-        CipherName::Aes256 => perform::<Aes256>(heap, request.task),
-        CipherName::Magma => perform::<Magma>(heap, request.task),
-    }
-}
-
-// The line that tells a fault.
-fn message(fault: Fault) -> &'static str
-    ensures { result.now ≡ message_of fault }
-{
-    match fault {
-        Fault::LongLine => "error: line too long",
-        Fault::UnknownRequest => "error: unknown request",
-        Fault::WordCount => "error: wrong number of words",
-        Fault::UnknownCipher => "error: unknown cipher",
-        Fault::Hexadecimal => "error: bad hexadecimal",
-        Fault::KeyLength => "error: wrong key length",
-        Fault::BlockLength => "error: wrong block length",
-        Fault::Number => "error: bad number",
-        Fault::Range => "error: number out of range",
-        Fault::Memory => "error: no memory",
+    let Request { cipher, key, task } = request;
+    match cipher {
+        CipherName::Aes256 => perform::<Aes256>(heap, &key, task),
+        CipherName::Magma => perform::<Magma>(heap, &key, task),
     }
 }
 
@@ -85,6 +57,6 @@ pub fn answer(heap: Global, line: &[u8]) -> Result<String, AllocError>
 {
     match parse(heap, line) {
         Ok(request) => carry_out(heap, request),
-        Err(fault) => String::from_str(heap, message(fault)),
+        Err(fault) => fault.to_string(heap),
     }
 }

@@ -9,12 +9,13 @@ ghost use Rattle.std.specs.Prelude.{◌≡◌, [], OnOk};
 ghost use Rattle.vectors.specs.Lines.{kept};
 
 use answer::answer;
+use request::LONGEST_LINE;
 use std::alloc::AllocError;
 use std::io;
-use std::io::Read;
+use std::io::{BufReader, Read};
 
 // A line is kept up to one byte past the longest that can be a request.
-const KEPT: usize = 4097;
+const KEPT: usize = LONGEST_LINE + 1;
 
 // Adds a byte to a line; what goes past the kept length is let go.
 fn keep(line: &mut Vec<u8>, byte: u8) -> Result<(), AllocError>
@@ -35,28 +36,13 @@ fn finish(rt: &HostRuntime, line: &mut Vec<u8>) -> io::Result<()>
     println!(rt; "{text}")
 }
 
-// Answers each line that ends in these bytes.
-fn take(rt: &HostRuntime, line: &mut Vec<u8>, bytes: &[u8]) -> io::Result<()> {
-    for b in bytes {
-        if *b == b'\n' {
-            finish(rt, line)?;
-        } else {
-            keep(line, *b)?;
-        }
-    }
-    Ok(())
-}
-
 fn main(rt: HostRuntime) -> io::Result<()> {
-    let mut input = rt.stdin();
     let mut line = Vec::new(rt.alloc());
-    let mut bytes = [0u8; 4096];
-    for _ in 0..u64::MAX {
-        let n = input.read(&mut bytes)?;
-        if n == 0 {
-            break;
+    for byte in BufReader::new(rt.alloc(), rt.stdin())?.bytes() {
+        match byte? {
+            b'\n' => finish(&rt, &mut line)?,
+            byte => keep(&mut line, byte)?,
         }
-        take(&rt, &mut line, &bytes[0..n])?;
     }
     if line.is_empty() {
         return Ok(());

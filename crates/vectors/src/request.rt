@@ -1,102 +1,52 @@
 // The request that a line asks for.
-ghost use Rattle.std.specs.Prelude.{◌≡◌, ◌<◌, ◌≤◌, [], ◌∷◌, map, length, Decides};
+ghost use Rattle.std.specs.Prelude.{◌<◌, ◌≤◌, [], ◌∷◌, map, length};
 ghost use Rattle.vectors.specs.Ciphers.{model_of};
-ghost use Rattle.vectors.specs.Requests.{action_word, IsAction, IsCipher, BytesRead, KeyRead, BlockRead, TimesRead, Read, Parsed};
+ghost use Rattle.vectors.specs.Requests.{action_word, FrontRead, TimesRead, Read, Parsed};
 
 use crate::kinds::{Action, CipherName, Fault, Request, Task};
-use aes::Aes256;
-use cipher::{BlockBuffer, BlockCipher, KeyBuffer};
-use magma::Magma;
+use cipher::{BlockBuffer, KeyBuffer};
 use std::alloc::Global;
 use text::{from_decimal, from_hex, split_words};
 
-const LONGEST_LINE: usize = 4096;
+pub const LONGEST_LINE: usize = 4096;
 
 const MOST_RENEWALS: u32 = 4096;
 
-// Whether a word is a name.
-fn is(word: &[u8], name: &str) -> bool
-    ensures { Decides result (word.now ≡ name.now) }
-{
-    word == name.as_bytes()
-}
-
-// What the first word asks for.
-fn action(word: &[u8]) -> Option<Action>
-    ensures { IsAction word.now result }
-{
-    if is(word, "encipher") {
-        Some(Action::Encipher)
-    } else if is(word, "decipher") {
-        Some(Action::Decipher)
-    } else if is(word, "renew") {
-        Some(Action::Renew)
-    } else {
-        None
-    }
-}
-
-// The cipher that a word names.
-fn cipher_name(word: &[u8]) -> Option<CipherName>
-    ensures { IsCipher word.now result }
-{
-    if is(word, "aes256") {
-        Some(CipherName::Aes256)
-    } else if is(word, "magma") {
-        Some(CipherName::Magma)
-    } else {
-        None
-    }
-}
-
-// Fills `out` with the bytes that the digits spell; `wrong` is the fault where they are not as many.
-fn read_bytes(heap: Global, text: &[u8], wrong: Fault, out: &mut [u8]) -> Result<(), Fault>
-    ensures { BytesRead text.now wrong out.old out.new result }
+// The n bytes that the digits spell, at the front of a buffer of zeros; `wrong` is the fault where they are not as many.
+fn read_front<const N: usize>(
+    heap: Global,
+    text: &[u8],
+    n: usize,
+    wrong: Fault,
+) -> Result<[u8; N], Fault>
+    requires { n ≤ N }
+    ensures { FrontRead N n wrong text.now result }
 {
     let bytes = from_hex(heap, text)?;
-    if bytes.len() != out.len() {
+    if bytes.len() != n {
         return Err(wrong);
     }
-    out.copy_from_slice(bytes.as_slice());
-    Ok(())
-}
-
-// The bytes of a key and of a block.
-fn lengths(cipher: CipherName) -> (usize, usize)
-    ensures key { result.0 ≡ (model_of cipher).key }
-    ensures block { result.1 ≡ (model_of cipher).block }
-    ensures bound { (result.0 ≤ 32) × (result.1 ≤ 16) }
-{
-    match cipher {
-        CipherName::Aes256 => (Aes256::key_len(), Aes256::block_len()),
-        CipherName::Magma => (Magma::key_len(), Magma::block_len()),
-    }
+    let mut buffer = [0; N];
+    buffer[..n].copy_from_slice(&bytes);
+    Ok(buffer)
 }
 
 fn read_key(heap: Global, cipher: CipherName, text: &[u8]) -> Result<KeyBuffer, Fault>
-    ensures { KeyRead cipher text.now result }
+    ensures { FrontRead 32 (model_of cipher).key Fault.KeyLength text.now result }
 {
-    let (n, _) = lengths(cipher);
-    let mut key = [0; 32];
-    read_bytes(heap, text, Fault::KeyLength, &mut key[0..n])?;
-    Ok(key)
+    read_front(heap, text, cipher.key_len(), Fault::KeyLength)
 }
 
 fn read_block(heap: Global, cipher: CipherName, text: &[u8]) -> Result<BlockBuffer, Fault>
-    ensures { BlockRead cipher text.now result }
+    ensures { FrontRead 16 (model_of cipher).block Fault.BlockLength text.now result }
 {
-    let (_, n) = lengths(cipher);
-    let mut block = [0; 16];
-    read_bytes(heap, text, Fault::BlockLength, &mut block[0..n])?;
-    Ok(block)
+    read_front(heap, text, cipher.block_len(), Fault::BlockLength)
 }
 
 fn read_times(text: &[u8]) -> Result<u32, Fault>
     ensures { TimesRead text.now result }
 {
-    let Some(times) = from_decimal(text) else {
-        return Err(Fault::Number);
-    };
+    let times = from_decimal(text).ok_or(Fault::Number)?;
     if times > MOST_RENEWALS {
         return Err(Fault::Range);
     }
@@ -104,6 +54,7 @@ fn read_times(text: &[u8]) -> Result<u32, Fault>
 }
 
 // The request that a first word and three more make.
+#[tactic(auto, using(crate::proofs::Reading::last_refused))]
 fn read_fields(
     heap: Global,
     action: Action,
@@ -113,27 +64,22 @@ fn read_fields(
 ) -> Result<Request, Fault>
     ensures { Read (action_word action ∷ cipher.now ∷ key.now ∷ last.now ∷ []) result }
 {
-    let Some(cipher) = cipher_name(cipher) else {
-        return Err(Fault::UnknownCipher);
-    };
+    let cipher = CipherName::try_from(cipher)?;
     let key = read_key(heap, cipher, key)?;
     let task = match action {
-        Action::Encipher => Task::Encipher(key, read_block(heap, cipher, last)?),
-        Action::Decipher => Task::Decipher(key, read_block(heap, cipher, last)?),
-        Action::Renew => Task::Renew(key, read_times(last)?),
+        Action::Encipher => Task::Encipher(read_block(heap, cipher, last)?),
+        Action::Decipher => Task::Decipher(read_block(heap, cipher, last)?),
+        Action::Renew => Task::Renew(read_times(last)?),
     };
-    Ok(Request { cipher, task })
+    Ok(Request { cipher, key, task })
 }
 
 // The request that the words of a line make.
-fn read(heap: Global, words: &[&[u8]]) -> Result<Request, Fault>
-    requires { 0 < length words.now }
-    ensures { Read (map (λ x. x.now) words.now) result }
+fn read(heap: Global, action: &[u8], fields: &[&[u8]]) -> Result<Request, Fault>
+    ensures { Read (action.now ∷ map (λ x. x.now) fields.now) result }
 {
-    let Some(action) = action(words[0]) else {
-        return Err(Fault::UnknownRequest);
-    };
-    let [_, cipher, key, last] = words else {
+    let action = Action::try_from(action)?;
+    let [cipher, key, last] = fields else {
         return Err(Fault::WordCount);
     };
     read_fields(heap, action, cipher, key, last)
@@ -147,5 +93,8 @@ pub fn parse(heap: Global, line: &[u8]) -> Result<Request, Fault>
         return Err(Fault::LongLine);
     }
     let words = split_words(heap, line)?;
-    read(heap, words.as_slice())
+    let Some((action, fields)) = words.split_first() else {
+        unreachable!();
+    };
+    read(heap, action, fields)
 }

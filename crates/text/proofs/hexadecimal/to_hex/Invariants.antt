@@ -1,6 +1,0 @@
-use Rattle.std.proofs.Common.{◌≡◌, take, string_bytes}
-use Rattle.text.specs.Hex.{encoded}
-use Rattle.text.proofs.hexadecimal.to_hex.Given as goal
-
-abbrev pub invariant-loop-b : goal.invariant-loop-b
-invariant-loop-b l = string_bytes l.text ≡ encoded (take l.b-index l.bytes)
