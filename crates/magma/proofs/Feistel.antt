@@ -1,9 +1,14 @@
 -- The rounds as the code does them, eight keys at a time. Assumes nothing.
-use Rattle.std.proofs.Common.{◌≡◌, ℕ, List, reverse, length, ap, ◌∙◌}
+use Rattle.std.proofs.Common.{◌≡◌, ℕ, List, [], ◌∷◌, reverse, length, fold, refl, ap, ◌∙◌}
 use mathlib.Core.List.{reverse-append, reverse-reverse}
 use Rattle.std.proofs.lemmas.List.{length-reverse}
-use Rattle.magma.specs.Magma.{applied, rounds, round_keys}
+use Rattle.magma.specs.Magma.{G, applied, rounds, round_keys}
 use Rattle.magma.specs.Feistel.{applied_append, swapped, rounds_applied, length_round_keys}
+
+-- the rounds as a fold over the keys
+pub folded : (ks : List ℕ) (a : ℕ × ℕ) → fold (λ a k. G k a) a ks ≡ applied ks a
+folded [] a = refl
+folded (k ∷ ks) a = folded ks (G k a)
 
 -- the keys three times forward, and once backward
 pub rounds_forward : (ks : List ℕ) (a : ℕ × ℕ) → length ks ≡ 8

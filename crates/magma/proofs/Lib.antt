@@ -1,3 +1,5 @@
 pub mod Paired
+pub mod Tables
 pub mod Feistel
 pub mod WordsAndBytes
+pub mod Made

@@ -1,7 +1,6 @@
 -- Two rows at a time. Assumes nothing.
 use Rattle.std.proofs.Common.{◌≡◌, ℕ, ◌+◌, ◌*◌, ◌/◌, ◌%◌, List, [], ◌∷◌, get_or, sym, ap, ◌∙◌, arith}
 use Rattle.std.proofs.lemmas.Nat.{shr-shr, field_of}
-use Rattle.cipher.specs.Bytes.{word_bytes}
 use Rattle.cipher.proofs.Words.{word4}
 use Rattle.magma.specs.Magma.{Pi', substituted, t}
 use Rattle.magma.specs.Pairs.{pair}
@@ -39,11 +38,9 @@ four r0 r1 r2 r3 r4 r5 r6 r7 a =
     ∙ arranged (p (a % 256)) (q (a / 256 % 256)) (r (a / 65536 % 256)) (s (a / 16777216 % 256))
 
 -- four bytes, each made by two rows, are the word that t makes
-pub by_pairs : {x3 x2 x1 x0 r : ℕ} (a : ℕ) (b : List ℕ) → b ≡ word_bytes a
-    → x3 ≡ pair 3 (get_or b 0 0) → x2 ≡ pair 2 (get_or b 1 0) → x1 ≡ pair 1 (get_or b 2 0) → x0 ≡ pair 0 (get_or b 3 0)
-    → r ≡ word4 x3 x2 x1 x0 → r ≡ t a
+pub by_pairs : {x3 x2 x1 x0 : ℕ} (a : ℕ) → x0 ≡ pair 0 (a % 256) → x1 ≡ pair 1 (a / 256 % 256)
+    → x2 ≡ pair 2 (a / 65536 % 256) → x3 ≡ pair 3 (a / 16777216 % 256) → word4 x3 x2 x1 x0 ≡ t a
 unfolding t
-by_pairs a b w e3 e2 e1 e0 e =
-    e ∙ (λ j. word4 (e3 j) (e2 j) (e1 j) (e0 j))
-    ∙ ap (λ l. word4 (pair 3 (get_or l 0 0)) (pair 2 (get_or l 1 0)) (pair 1 (get_or l 2 0)) (pair 0 (get_or l 3 0))) w
+by_pairs a e0 e1 e2 e3 =
+    (λ j. word4 (e3 j) (e2 j) (e1 j) (e0 j))
     ∙ sym (four (get_or Pi' 0 []) (get_or Pi' 1 []) (get_or Pi' 2 []) (get_or Pi' 3 []) (get_or Pi' 4 []) (get_or Pi' 5 []) (get_or Pi' 6 []) (get_or Pi' 7 []) a)

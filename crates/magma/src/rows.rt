@@ -10,6 +10,7 @@ pub struct Row {
 
 impl Row {
     // What the low nibble of b becomes.
+    #[tactic(auto, using(crate::specs::Permutation::nibble_below))]
     pub fn nibble(&self, b: u8) -> u8
         ensures value { result ≡ slice_index self.now.nibbles (b % 16) }
         ensures small { result < 16 }

@@ -1,49 +1,49 @@
 // The transformation t of a word: each nibble replaced by its row.
-ghost use Rattle.std.specs.Prelude.{◌≡◌, T, [], ◌∷◌};
-ghost use Rattle.magma.specs.Magma.{substituted, t};
-ghost use Rattle.magma.specs.Pairs.{pair, paired};
+ghost use Rattle.std.specs.Prelude.{◌≡◌, ℕ, ◌<◌, map};
+ghost use Rattle.magma.specs.Magma.{Pi', t};
+ghost use Rattle.magma.specs.Pairs.{pair as pair_of};
 
-use crate::pairs::{PAIR0, PAIR1, PAIR2, PAIR3};
+use crate::pairs::PAIRS;
 use crate::rows::{ROWS, Row};
+use std::array;
 
-// What two rows make of a byte.
-fn two_rows(low: &Row, high: &Row, b: u8) -> u8
-    ensures { result ≡ substituted (low.now.nibbles ∷ high.now.nibbles ∷ []) b }
+// What rows 2i and 2i + 1 make of a byte.
+fn by_rows(rows: &[Row; 8], i: usize, b: u8) -> u8
+    requires place { i < 4 }
+    requires all { map (λ r. r.nibbles) rows.now ≡ Pi' }
+    ensures { result ≡ pair_of i b }
 {
-    low.nibble(b) + 16 * high.nibble(b / 16)
+    rows[2 * i].nibble(b) + 16 * rows[2 * i + 1].nibble(b / 16)
+}
+
+// The same, by their table.
+fn by_table(i: usize, b: u8) -> u8
+    requires { i < 4 }
+    ensures { result ≡ pair_of i b }
+{
+    PAIRS[i][b as usize]
+}
+
+// t(a), where `pair` gives what two rows make of a byte.
+fn by_bytes<F: Fn(usize, u8) -> u8>(a: u32, pair: F) -> u32
+    requires callable { (i b : ℕ) → i < 4 → F.pre pair i b }
+    requires gives { (i b x : ℕ) → F.post pair i b x → x ≡ pair_of i b }
+    ensures { result ≡ t a }
+{
+    let bytes = a.to_le_bytes();
+    u32::from_le_bytes(array::from_fn(|i| pair(i, bytes[i])))
 }
 
 // t(a), by the rows.
 pub fn substitute(a: u32) -> u32
     ensures { result ≡ t a }
 {
-    let rows = &ROWS;
-    let [b3, b2, b1, b0] = a.to_be_bytes();
-    u32::from_be_bytes([
-        two_rows(&rows[6], &rows[7], b3),
-        two_rows(&rows[4], &rows[5], b2),
-        two_rows(&rows[2], &rows[3], b1),
-        two_rows(&rows[0], &rows[1], b0),
-    ])
-}
-
-// What rows 2 * I and 2 * I + 1 make of a byte, by their table.
-fn by_table<const I: usize>(table: &[u8; 256], b: u8) -> u8
-    requires { T (paired I table.now) }
-    ensures { result ≡ pair I b }
-{
-    table[b as usize]
+    by_bytes(a, |i, b| by_rows(&ROWS, i, b))
 }
 
 // t(a), by the tables of two rows each: the same word, and faster.
 pub fn substitute_pairs(a: u32) -> u32
     ensures { result ≡ t a }
 {
-    let [b3, b2, b1, b0] = a.to_be_bytes();
-    u32::from_be_bytes([
-        by_table::<3>(&PAIR3, b3),
-        by_table::<2>(&PAIR2, b2),
-        by_table::<1>(&PAIR1, b1),
-        by_table::<0>(&PAIR0, b0),
-    ])
+    by_bytes(a, by_table)
 }

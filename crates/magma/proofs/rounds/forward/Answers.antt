@@ -1,15 +1,11 @@
-use Rattle.std.proofs.Common.{◌≡◌, ℕ, sym, ap, ◌∙◌, arith}
-use lib.Bits.{bit_xor}
-use Rattle.std.proofs.lemmas.List.{take_all}
-use Rattle.magma.specs.Magma.{G, applied}
-use Rattle.magma.specs.Feistel.{applied_more}
+use Rattle.std.proofs.Common.{rules, ◌∙◌}
+use Rattle.std.proofs.lemmas.Iterator.{YieldsList-from_slice}
+use Rattle.std.proofs.lemmas.Iterator.Consumers.{fold_from_yields_List}
+use Rattle.magma.specs.Magma.{G}
+use Rattle.magma.proofs.Feistel.{folded}
 use Rattle.magma.proofs.rounds.forward.Goals as goal
 
-pub loop-k-preserved : goal.loop-k-preserved
-loop-k-preserved c =
-    let l = c.loop-k in
-    let new : ◌≡◌ {A = ℕ × ℕ} (l.a0, bit_xor c.g.result l.a1) (G _ (l.a1, l.a0)) = λ j. (l.a0, bit_xor (c.g.ensures j) l.a1) in
-    new ∙ ap (G _) l.invariant ∙ sym (applied_more c.args.keys.now l.k-index c.args.a (omega arith))
-
 pub returns : goal.returns
-returns c = c.loop-k.invariant ∙ ap (λ ks. applied ks c.args.a) (take_all c.loop-k.k-index c.args.keys.now (omega arith))
+returns c =
+    fold_from_yields_List _ (λ a k. G k a) c.args.a _ c.fold.ensures.ran (YieldsList-from_slice c.args.keys.now cc) (λ a x b q h. search rules)
+    ∙ folded c.args.keys.now c.args.a
