@@ -53,6 +53,13 @@ impl<C: BlockCipher> Key<C> {
         C::schedule(&self.bytes)
     }
 
+    // The bytes of the key.
+    pub fn as_slice(&self) -> &[u8]
+        ensures { result.now ≡ self.now }
+    {
+        &self.bytes[..C::key_len()]
+    }
+
     // The bytes of the key, and zeros behind them.
     pub fn buffer(&self) -> KeyBuffer
         ensures { result ≡ self.now ++ replicate (32 - C.BlockCipher.model.key) 0 }

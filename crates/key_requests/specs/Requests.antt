@@ -5,9 +5,9 @@ use Rattle.text.specs.Numerals.{Numeral}
 use Rattle.text.specs.declared.fault.HexFault.{HexFault}
 use Rattle.text.specs.declared.fault.HexFault.TheVariants.{Digits, Memory as no_memory}
 use Rattle.stacks.specs.declared.plan.Plan.{Plan}
-use Rattle.stacks.specs.declared.plan.Plan.TheVariants.{AxisChain, AxisMaster, AxisSerialChain, AxisFanFanChain, OneFan, OneSerial, OneChain, OneMaster}
-use Rattle.key_requests.specs.declared.request.AxisStack.{AxisStack}
-use Rattle.key_requests.specs.declared.request.AxisStack.TheVariants.{Chain, Master, SerialChain, FanFanChain}
+use Rattle.stacks.specs.declared.plan.Plan.TheVariants.{OnAxis, OneFan, OneSerial, OneChain, OneMaster}
+use Rattle.stacks.specs.declared.plan.AxisStack.{AxisStack}
+use Rattle.stacks.specs.declared.plan.AxisStack.TheVariants.{Chain, Master, SerialChain, FanFanChain}
 use Rattle.key_requests.specs.declared.request.KeyFault.{KeyFault}
 use Rattle.key_requests.specs.declared.request.KeyFault.TheVariants.{Stack, Axis, Number, Hexadecimal, Memory}
 use Rattle.key_requests.specs.declared.request.KeyRequest.{KeyRequest}
@@ -18,18 +18,12 @@ abbrev pub of_hex : HexFault → KeyFault
 of_hex Digits = Hexadecimal
 of_hex no_memory = Memory
 
--- the words of the stacks on an axis, and what they are with its number
+-- the words of the stacks on an axis
 abbrev pub axis_word : AxisStack → List ℕ
 axis_word Chain = codes "1"
 axis_word Master = codes "2"
 axis_word SerialChain = codes "3"
 axis_word FanFanChain = codes "4"
-
-abbrev pub on_axis : AxisStack → ℕ → Plan
-on_axis Chain axis = AxisChain axis
-on_axis Master axis = AxisMaster axis
-on_axis SerialChain axis = AxisSerialChain axis
-on_axis FanFanChain axis = AxisFanFanChain axis
 
 -- the word of a master of that period
 abbrev pub MasterWord : List ℕ → ℕ → Type 0
@@ -41,10 +35,7 @@ RootStack word OneFan = word ≡ codes "fan"
 RootStack word OneSerial = word ≡ codes "serial"
 RootStack word OneChain = word ≡ codes "chain"
 RootStack word (OneMaster period) = MasterWord word period
-RootStack word (AxisChain axis) = ⊥
-RootStack word (AxisMaster axis) = ⊥
-RootStack word (AxisSerialChain axis) = ⊥
-RootStack word (AxisFanFanChain axis) = ⊥
+RootStack word (OnAxis x axis) = ⊥
 
 abbrev pub no_axis : List ℕ
 no_axis = codes "-"
@@ -81,7 +72,7 @@ NumberRead text (Err f) = (f ≡ Number) × NoNumber text
 -- a stack and an axis say the plan
 abbrev pub Plans : List ℕ → List ℕ → Plan → Type 0
 Plans stack axis p =
-    ((x : AxisStack) × (n : ℕ) × (stack ≡ axis_word x) × Numeral axis n × (p ≡ on_axis x n))
+    ((x : AxisStack) × (n : ℕ) × (stack ≡ axis_word x) × Numeral axis n × (p ≡ OnAxis x n))
     ⊎ (RootStack stack p × (axis ≡ no_axis))
 
 -- for each fault, what is the matter with a stack and an axis

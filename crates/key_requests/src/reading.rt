@@ -1,9 +1,9 @@
 // The request that words make.
 ghost use Rattle.std.specs.Prelude.{◌≡◌};
-ghost use Rattle.key_requests.specs.Requests.{on_axis as on_axis_of, IsAxisStack, IsMaster, IsRootStack, NumberRead, PlanRead, KeyRead};
+ghost use Rattle.key_requests.specs.Requests.{IsAxisStack, IsMaster, IsRootStack, NumberRead, PlanRead, KeyRead};
 
-use crate::request::{AxisStack, KeyFault, KeyRequest, KeyWords};
-use stacks::Plan;
+use crate::request::{KeyFault, KeyRequest, KeyWords};
+use stacks::{AxisStack, Plan};
 use std::alloc::Global;
 use text::{from_decimal, from_hex, is};
 
@@ -17,18 +17,6 @@ fn axis_stack(word: &[u8]) -> Option<AxisStack>
         b"3" => Some(AxisStack::SerialChain),
         b"4" => Some(AxisStack::FanFanChain),
         _ => None,
-    }
-}
-
-// The plan of a stack on the axis of that number.
-fn on_axis(stack: AxisStack, axis: u32) -> Plan
-    ensures { result ≡ on_axis_of stack axis }
-{
-    match stack {
-        AxisStack::Chain => Plan::AxisChain(axis),
-        AxisStack::Master => Plan::AxisMaster(axis),
-        AxisStack::SerialChain => Plan::AxisSerialChain(axis),
-        AxisStack::FanFanChain => Plan::AxisFanFanChain(axis),
     }
 }
 
@@ -67,7 +55,7 @@ fn read_plan(stack: &[u8], axis: &[u8]) -> Result<Plan, KeyFault>
     ensures { PlanRead stack.now axis.now result }
 {
     if let Some(stack) = axis_stack(stack) {
-        return Ok(on_axis(stack, read_number(axis)?));
+        return Ok(Plan::OnAxis(stack, read_number(axis)?));
     }
     let plan = root_stack(stack).ok_or(KeyFault::Stack)?;
     if !is(axis, "-") {

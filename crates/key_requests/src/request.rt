@@ -24,15 +24,6 @@ pub struct KeyWords<'a> {
     pub number: &'a [u8],
 }
 
-// The stacks that stand on the branch of an axis.
-#[derive(Clone, Copy, Debug, PartialEq, Eq)]
-pub enum AxisStack {
-    Chain,
-    Master,
-    SerialChain,
-    FanFanChain,
-}
-
 // Why words are no request for a key, or that there is no memory to tell.
 #[derive(Clone, Copy, Debug, PartialEq, Eq)]
 pub enum KeyFault {

@@ -7,18 +7,18 @@ ghost use Rattle.vectors.specs.Answers.{repeated, done, answered, Answers};
 use crate::kinds::{CipherName, Request, Task};
 use crate::request::parse;
 use aes::Aes256;
-use cipher::{BlockCipher, KeyBuffer, renew};
+use cipher::{BlockCipher, Key, KeyBuffer, renew};
 use magma::Magma;
 use std::alloc::{AllocError, Global};
 use text::to_hex;
 
 // The key renewed so many times.
-fn renewed<C: BlockCipher>(key: &KeyBuffer, times: u32) -> KeyBuffer
-    ensures { take C.BlockCipher.model.key result ≡ repeated times (renewed_of C.BlockCipher.model) (take C.BlockCipher.model.key key.now) }
+fn renewed<C: BlockCipher>(key: Key<C>, times: u32) -> Key<C>
+    ensures { result ≡ repeated times (renewed_of C.BlockCipher.model) key }
 {
-    let mut last = *key;
+    let mut last = key;
     for _ in 0..times {
-        last = renew::<C>(&last);
+        last = renew(&last);
     }
     last
 }
@@ -36,7 +36,7 @@ fn perform<C: BlockCipher>(heap: Global, key: &KeyBuffer, task: Task) -> Result<
             C::schedule(key).decipher(&mut block);
             to_hex(heap, &block[..C::block_len()])
         }
-        Task::Renew(times) => to_hex(heap, &renewed::<C>(key, times)[..C::key_len()]),
+        Task::Renew(times) => to_hex(heap, renewed::<C>(Key::new(key), times).as_slice()),
     }
 }
 
