@@ -7,7 +7,7 @@ use Rattle.cipher.specs.Bytes.{word, word_bytes}
 use Rattle.cipher.proofs.Words.{bytes_word4}
 use Rattle.aes.specs.Field.{◌⊕◌}
 use Rattle.aes.specs.Aes.{expanded, temp}
-use Rattle.aes.specs.Words.{four_at, key_of}
+use Rattle.aes.specs.Words.{four_at, bytes_of}
 
 -- the word that the code writes at i is the next of the expansion
 pub expanded_more : (nk : ℕ) (key w : List ℕ) (i : ℕ) → 0 < nk → nk ≤ i → i < length w → take i w ≡ expanded nk (i - nk) key
@@ -51,16 +51,20 @@ take_four xs i h =
     one_more xs (get_or xs i 0 ∷ get_or xs (i + 1) 0 ∷ get_or xs (i + 2) 0 ∷ []) i 3 h three
 
 -- the words of a key hold its bytes
-pub key_of_words : (nk : ℕ) (key : List ℕ) → 4 * nk ≤ length key → ((i : ℕ) → get_or key i 0 < 256)
-    → key_of (map (λ i. word key (4 * i)) (range_with_len 0 nk)) ≡ take (4 * nk) key
-unfolding key_of
-key_of_words zero key h small = refl
-key_of_words (suc n) key h small =
+pub bytes_of_words : (nk : ℕ) (key : List ℕ) → 4 * nk ≤ length key → ((i : ℕ) → get_or key i 0 < 256)
+    → bytes_of (map (λ i. word key (4 * i)) (range_with_len 0 nk)) ≡ take (4 * nk) key
+unfolding bytes_of
+bytes_of_words zero key h small = refl
+bytes_of_words (suc n) key h small =
     let f : ℕ → ℕ = λ i. word key (4 * i) in
     let b = 4 * n in
     let e : b + 4 ≡ 4 * suc n = omega arith in
     let last = ap (λ m. map f (range_with_len 0 m)) (sym (add-one n)) ∙ map-range_with_len_more f 0 n n (zero-add n) in
-    let before = key_of_words n key (omega arith) small in
+    let before = bytes_of_words n key (omega arith) small in
     let new = bytes_word4 _ _ _ _ (small b) (small (b + 1)) (small (b + 2)) (small (b + 3)) in
-    ap key_of last ∙ sym (flat_map_more word_bytes [] (map f (range_with_len 0 n)) (f n)) ∙ (λ j. before j ++ new j)
+    ap bytes_of last ∙ sym (flat_map_more word_bytes [] (map f (range_with_len 0 n)) (f n)) ∙ (λ j. before j ++ new j)
     ∙ sym (take_four key b (omega arith)) ∙ ap (λ m. take m key) e
+
+-- the first words hold a key of eight
+pub front_is : {nk : ℕ} {key : List ℕ} (w : List ℕ) → nk ≡ 8 → bytes_of (take nk w) ≡ take (4 * nk) key → length key ≤ 32 → bytes_of (take 8 w) ≡ key
+front_is {key = key} w e h l = ap (λ k. bytes_of (take k w)) (sym e) ∙ h ∙ ap (λ k. take (4 * k) key) e ∙ take_all 32 key l

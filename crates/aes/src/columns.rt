@@ -1,50 +1,62 @@
 // The state in four words, a word for each column.
-ghost use Rattle.std.specs.Prelude.{◌≡◌, ◌+◌, ◌*◌, ◌<◌, length};
-ghost use Rattle.cipher.specs.Bytes.{word as word_of, word_bytes};
-ghost use Rattle.aes.specs.Aes.{add_round_key as add_round_key_of, round_key as round_key_of};
-ghost use Rattle.aes.specs.Words.{four_at, state_of, words_of};
+ghost use Rattle.std.specs.Prelude.{◌≡◌, ℕ, ◌-◌, ◌/◌, ◌≤◌, List, map, length};
+ghost use Rattle.std.specs.List.{range_with_len};
+ghost use Rattle.cipher.specs.Bytes.{Bytes, word_bytes};
+ghost use Rattle.aes.specs.Aes.{circulant, add_round_key as add_round_key_of, round_key as round_key_of};
+ghost use Rattle.aes.specs.Words.{bytes_of, columns, entry};
 
 use cipher::BlockBuffer;
 
-pub(crate) type State = (u32, u32, u32, u32);
+// Four columns, of a state or of a round key.
+pub(crate) type Columns = [u32; 4];
 
-pub(crate) type RoundKey = (u32, u32, u32, u32);
-
-// The word that begins at byte i.
-pub(crate) fn word(b: &[u8], i: usize) -> u32
-    requires { i + 3 < length b.now }
-    ensures value { result ≡ word_of b.now i }
-    ensures bytes { word_bytes result ≡ four_at b.now i }
+pub(crate) fn from_bytes(block: &BlockBuffer) -> Columns
+    ensures { bytes_of result ≡ block.now }
 {
-    u32::from_be_bytes([b[i], b[i + 1], b[i + 2], b[i + 3]])
+    let [a, b, c, d, e, f, g, h, i, j, k, l, m, n, o, p] = *block;
+    [[a, b, c, d], [e, f, g, h], [i, j, k, l], [m, n, o, p]].map(u32::from_be_bytes)
 }
 
-pub(crate) fn from_bytes(b: &BlockBuffer) -> State
-    ensures { state_of result ≡ b.now }
+// The columns in bytes.
+pub(crate) fn to_columns(s: Columns) -> [[u8; 4]; 4]
+    ensures { result ≡ columns (bytes_of s) }
 {
-    (word(b, 0), word(b, 4), word(b, 8), word(b, 12))
+    s.map(u32::to_be_bytes)
 }
 
-pub(crate) fn to_bytes(s: State) -> BlockBuffer
-    ensures { result ≡ state_of s }
+pub(crate) fn to_bytes(s: Columns) -> BlockBuffer
+    ensures { result ≡ bytes_of s }
 {
-    let [a, b, c, d] = s.0.to_be_bytes();
-    let [e, f, g, h] = s.1.to_be_bytes();
-    let [i, j, k, l] = s.2.to_be_bytes();
-    let [m, n, o, p] = s.3.to_be_bytes();
+    let [[a, b, c, d], [e, f, g, h], [i, j, k, l], [m, n, o, p]] = to_columns(s);
     [a, b, c, d, e, f, g, h, i, j, k, l, m, n, o, p]
 }
 
-// The words of round n, of the expanded key w.
-pub(crate) fn round_key(w: &[u32], n: usize) -> RoundKey
-    requires { 4 * n + 3 < length w.now }
-    ensures { words_of result ≡ round_key_of w.now n }
+// The round keys in the words w of an expanded key: the first, those between, and the last.
+pub(crate) fn round_keys(w: &[u32]) -> (&Columns, &[Columns], &Columns)
+    requires { 8 ≤ length w.now }
+    ensures first { result.0.now ≡ round_key_of w.now 0 }
+    ensures middle { result.1.now ≡ map (round_key_of w.now) (range_with_len 1 (length w.now / 4 - 2)) }
+    ensures last { result.2.now ≡ round_key_of w.now (length w.now / 4 - 1) }
 {
-    (w[4 * n], w[4 * n + 1], w[4 * n + 2], w[4 * n + 3])
+    let (keys, _) = w.as_chunks::<4>();
+    let [first, middle @ .., last] = keys else {
+        unreachable!()
+    };
+    (first, middle, last)
 }
 
-pub(crate) fn add_round_key(s: State, k: RoundKey) -> State
-    ensures { state_of result ≡ add_round_key_of (state_of s) (words_of k) }
+pub(crate) fn add_round_key(s: Columns, k: &Columns) -> Columns
+    ensures { bytes_of result ≡ add_round_key_of (bytes_of s) k.now }
 {
-    (s.0 ^ k.0, s.1 ^ k.1, s.2 ^ k.2, s.3 ^ k.3)
+    let [s0, s1, s2, s3] = s;
+    let [k0, k1, k2, k3] = *k;
+    [s0 ^ k0, s1 ^ k1, s2 ^ k2, s3 ^ k3]
+}
+
+// A matrix times a column, where `words` has what each byte of the column adds in row 0: each word is turned into its row.
+pub(crate) fn multiply(words: [u32; 4]) -> u32
+    ensures { (p q r s : ℕ) (column : List ℕ) → Bytes 4 column → words ≡ map (entry p q r s) column → word_bytes result ≡ circulant p s r q column }
+{
+    let [a, b, c, d] = words;
+    a ^ b.rotate_right(8) ^ c.rotate_right(16) ^ d.rotate_right(24)
 }

@@ -1,8 +1,7 @@
 // The tables of InvCipher, and the look-ups in them.
-ghost use Rattle.std.specs.Prelude.{◌≡◌, [], ◌∷◌};
-ghost use Rattle.cipher.specs.Bytes.{word};
-ghost use Rattle.aes.specs.Field.{◌•◌};
+ghost use Rattle.std.specs.Prelude.{◌≡◌};
 ghost use Rattle.aes.specs.Aes.{s_box, inv_s_box as inv_s_box_of};
+ghost use Rattle.aes.specs.Words.{entry};
 
 // InvSBox of a byte, which undoes SBox.
 pub(crate) fn inv_s_box(y: u8) -> u8
@@ -14,7 +13,7 @@ pub(crate) fn inv_s_box(y: u8) -> u8
 
 // What a byte of row 0 adds to its column in InvMixColumns.
 pub(crate) fn inv_mix(y: u8) -> u32
-    ensures { result ≡ word (0x0e • y ∷ 0x09 • y ∷ 0x0d • y ∷ 0x0b • y ∷ []) 0 }
+    ensures { result ≡ entry 0x0e 0x09 0x0d 0x0b y }
 {
     INV_MIX[y as usize]
 }

@@ -10,13 +10,10 @@ mod tables;
 
 ghost use Rattle.std.specs.Prelude.{◌≡◌, take};
 ghost use Rattle.aes.specs.Aes.{key_expansion as key_expansion_of, the_model};
-ghost use Rattle.aes.specs.Words.{key_of};
+ghost use Rattle.aes.specs.Words.{bytes_of};
 ghost use Rattle.aes.specs.Law;
 
 use cipher::{BlockBuffer, BlockCipher, KeyBuffer};
-
-// The words of a key.
-const NK: usize = 8;
 
 // The rounds.
 const NR: usize = 14;
@@ -28,13 +25,13 @@ const WORDS: usize = 4 * (NR + 1);
 #[derive(Drop)]
 pub struct Aes256 {
     words: [u32; WORDS],
-    ghost made: { words ≡ key_expansion_of 8 14 (key_of (take 8 words)) },
+    ghost made: { words ≡ key_expansion_of 8 14 (bytes_of (take 8 words)) },
 }
 
 impl BlockCipher for Aes256 {
     ghost model = { the_model };
 
-    ghost keyed = { λ c. key_of (take 8 c.words) };
+    ghost keyed = { λ c. bytes_of (take 8 c.words) };
 
     ghost laws = { Law.laws };
 
@@ -48,15 +45,15 @@ impl BlockCipher for Aes256 {
 
     fn schedule(key: &KeyBuffer) -> Aes256 {
         let mut words = [0; WORDS];
-        schedule::key_expansion(key, NK, &mut words);
+        schedule::key_expansion(key, &mut words);
         Aes256 { words }
     }
 
     fn encipher(&self, block: &mut BlockBuffer) {
-        *block = rounds::cipher(block, NR, &self.words);
+        *block = rounds::cipher(block, &self.words);
     }
 
     fn decipher(&self, block: &mut BlockBuffer) {
-        *block = inverse::inv_cipher(block, NR, &self.words);
+        *block = inverse::inv_cipher(block, &self.words);
     }
 }

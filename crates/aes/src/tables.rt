@@ -1,8 +1,9 @@
 // The tables of Cipher and KeyExpansion, and the look-ups in them.
-ghost use Rattle.std.specs.Prelude.{◌≡◌, ◌<◌, ◌≤◌, [], ◌∷◌, map};
+ghost use Rattle.std.specs.Prelude.{◌≡◌, ◌<◌, ◌≤◌, map};
 ghost use Rattle.cipher.specs.Bytes.{word, word_bytes};
 ghost use Rattle.aes.specs.Field.{◌•◌, inverse};
 ghost use Rattle.aes.specs.Aes.{s_box as s_box_of, rcon as rcon_of};
+ghost use Rattle.aes.specs.Words.{entry};
 
 // SBox of a byte; the inverse that SBox is made of is the field's.
 pub(crate) fn s_box(y: u8) -> u8
@@ -13,16 +14,16 @@ pub(crate) fn s_box(y: u8) -> u8
 }
 
 // SubBytes of a column.
-pub(crate) fn sub_bytes(a: u8, b: u8, c: u8, d: u8) -> u32
-    ensures value { result ≡ word (map s_box_of (a ∷ b ∷ c ∷ d ∷ [])) 0 }
-    ensures bytes { word_bytes result ≡ map s_box_of (a ∷ b ∷ c ∷ d ∷ []) }
+pub(crate) fn sub_bytes(column: [u8; 4]) -> u32
+    ensures value { result ≡ word (map s_box_of column) 0 }
+    ensures bytes { word_bytes result ≡ map s_box_of column }
 {
-    u32::from_be_bytes([s_box(a), s_box(b), s_box(c), s_box(d)])
+    u32::from_be_bytes(column.map(s_box))
 }
 
 // What a byte of row 0 adds to its column in SubBytes and MixColumns.
 pub(crate) fn sub_mix(y: u8) -> u32
-    ensures { result ≡ word (0x02 • s_box_of y ∷ 0x01 • s_box_of y ∷ 0x01 • s_box_of y ∷ 0x03 • s_box_of y ∷ []) 0 }
+    ensures { result ≡ entry 0x02 0x01 0x01 0x03 (s_box_of y) }
 {
     SUB_MIX[y as usize]
 }

@@ -1,6 +1,13 @@
-use Rattle.std.proofs.Common.{ℕ, List, [], ◌∷◌, ◌++◌, get_or, replicate, ap, ◌∙◌}
-use Rattle.std.specs.Prelude.{bit_xor}
+use Rattle.std.proofs.Common.{rules, ◌≡◌, ◌/◌, ℕ, List, length, fold, ap, ◌∙◌, arith}
+use Rattle.std.specs.Int.Bits.{bit_xor}
+use Rattle.std.specs.Int.{bytes_high_first}
+use Rattle.std.specs.Simd.{first_chunks}
+use Rattle.std.proofs.lemmas.Iterator.{YieldsList-from_slice}
+use Rattle.std.proofs.lemmas.Iterator.Consumers.{fold_from_yields_List}
+use Rattle.aes.proofs.Keys.{chunks}
+use Rattle.cipher.specs.Bytes.{word}
 use Rattle.speed.specs.Counter.{enciphered, folded}
+use Rattle.speed.proofs.Sums.{regrouped, wide}
 use Rattle.speed.proofs.turn.Goals as goal
 
 pub returns : goal.returns
@@ -8,7 +15,11 @@ unfolding folded
 returns g c =
     let model = g.C.BlockCipher.model in
     let key = g.C.BlockCipher.keyed c.args.cipher.now in
-    let block : List ℕ → List ℕ = λ l. replicate 12 0 ++ (get_or l 0 0 ∷ get_or l 1 0 ∷ get_or l 2 0 ∷ get_or l 3 0 ∷ []) in
-    let made = c.encipher.ensures ∙ ap (λ l. enciphered model key (block l)) c.to_be_bytes.ensures in
-    (λ j. bit_xor (bit_xor (c.word.ensures j) (c.word-2.ensures j)) (bit_xor (c.word-3.ensures j) (c.word-4.ensures j)))
-    ∙ ap folded made
+    let block : List ℕ = c.encipher.new.block in
+    let h : ℕ → List ℕ → ℕ = λ sum w. bit_xor sum (word w 0) in
+    let count : length block / 4 ≡ 4 = omega (arith, c.encipher.array_long) in
+    let words = c.as_chunks.ensures.front ∙ ap (λ n. first_chunks 4 n block) count ∙ chunks 4 block (omega (arith, c.encipher.array_long)) in
+    let began = c.to_be_bytes-block.ensures ∙ ap (bytes_high_first 16) c.from.ensures ∙ wide c.args.i c.ranges.i.fits in
+    fold_from_yields_List _ h 0 _ c.fold.ensures.ran (YieldsList-from_slice c.as_chunks.result.0.now cc) (λ a x b q k. search rules)
+    ∙ ap (fold h 0) words ∙ regrouped (word block 0) (word block 4) (word block 8) (word block 12)
+    ∙ ap folded (c.encipher.ensures ∙ ap (enciphered model key) began)

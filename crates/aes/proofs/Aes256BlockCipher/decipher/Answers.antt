@@ -1,6 +1,6 @@
-use Rattle.std.proofs.Common.{ℕ, List, take, sym, ap, ◌∙◌, arith}
+use Rattle.std.proofs.Common.{◌≡◌, ◌-◌, ◌/◌, length, take, sym, ◌∙◌, arith}
 use Rattle.aes.specs.Aes.{inv_cipher, dec256}
-use Rattle.aes.specs.Words.{key_of}
+use Rattle.aes.specs.Words.{bytes_of}
 use Rattle.aes.proofs.States.{whole}
 use Rattle.aes.proofs.Aes256BlockCipher.decipher.Goals as goal
 
@@ -9,5 +9,5 @@ unfolding dec256
 returns c =
     let b = c.args.block.now in
     let self = c.args.self.now in
-    c.inv_cipher.ensures ∙ ap (λ (w : List ℕ). inv_cipher b 14 w) self.made
-    ∙ sym (whole (dec256 (key_of (take 8 self.words))) b (omega arith))
+    let nr : length self.words / 4 - 1 ≡ 14 = omega arith in
+    c.inv_cipher.ensures ∙ (λ j. inv_cipher b (nr j) (self.made j)) ∙ sym (whole (dec256 (bytes_of (take 8 self.words))) b (omega arith))

@@ -1,7 +1,7 @@
 use Rattle.aes.specs.Field.{◌•◌, x_times}
 use Rattle.aes.specs.declared.inverse_tables.TheConstants.{INV_MIX}
 use Rattle.cipher.proofs.Every.{tabled}
-use Rattle.aes.proofs.Lookups.{entry}
+use Rattle.aes.specs.Words.{entry}
 use Rattle.aes.proofs.inverse_tables.inv_mix.Goals as goal
 
 pub returns : goal.returns

@@ -1,13 +1,13 @@
-use Rattle.std.proofs.Common.{map}
+use Rattle.std.proofs.Common.{rules, List, ℕ, [], map, length, ap, ◌∙◌}
+use Rattle.std.specs.List.{flat_map}
 use Rattle.aes.specs.Aes.{s_box, circulant, round, add_round_key}
-use Rattle.aes.specs.Words.{state_of}
-use Rattle.aes.proofs.States.{shifted}
+use Rattle.aes.proofs.Maps.{mapped_bytes}
 use Rattle.aes.proofs.rounds.round.Goals as goal
 
 pub returns : goal.returns
-unfolding state_of round add_round_key
+unfolding round
 returns c =
-    shifted (λ b. circulant 2 3 1 1 (map s_box b)) c.args.s
-    c.to_be_bytes.ensures c.to_be_bytes-2.ensures c.to_be_bytes-3.ensures c.to_be_bytes-4.ensures
-    c.mix_column.result c.mix_column-2.result c.mix_column-3.result c.mix_column-4.result c.args.k
-    c.mix_column.ensures c.mix_column-2.ensures c.mix_column-3.ensures c.mix_column-4.ensures
+    let f : List ℕ → List ℕ = λ b. circulant 2 3 1 1 (map s_box b) in
+    let e = c.shift_rows.ensures in
+    let mixed = mapped_bytes _ f (λ p q x y k. search rules) [] c.shift_rows.result c.map.result 4 (ap length e) c.map.ensures.items ∙ ap (flat_map f) e in
+    c.add_round_key.ensures ∙ ap (λ (b : List ℕ). add_round_key b c.args.k.now) mixed

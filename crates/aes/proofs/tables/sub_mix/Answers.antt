@@ -2,7 +2,7 @@ use Rattle.aes.specs.Field.{◌•◌, x_times, inverse}
 use Rattle.aes.specs.Aes.{s_box}
 use Rattle.aes.specs.declared.tables.TheConstants.{SUB_MIX}
 use Rattle.cipher.proofs.Every.{tabled}
-use Rattle.aes.proofs.Lookups.{entry}
+use Rattle.aes.specs.Words.{entry}
 use Rattle.aes.proofs.tables.sub_mix.Goals as goal
 
 pub returns : goal.returns
