@@ -72,10 +72,9 @@ impl<C: BlockCipher> Maker<C> {
         ensures inner { Advanced C.BlockCipher.model (R.Rule.kind rule.now) first last self.old.inner self.new.inner }
         ensures key { take C.BlockCipher.model.key self.new.current ≡ given C.BlockCipher.model (R.Rule.kind rule.now) (take C.BlockCipher.model.key self.new.inner.key) last }
     {
-        for remainder in first..last {
+        for remainder in first..=last {
             self.make(rule, remainder);
         }
-        self.make(rule, last);
     }
 
     // Goes on from the inner key that it has, or begins with the key below; tells the first remainder whose
