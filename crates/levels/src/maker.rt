@@ -69,10 +69,9 @@ impl<C: BlockCipher> Maker<C> {
         ensures inner { Advanced C.BlockCipher.model kind first last self.old.inner self.new.inner }
         ensures key { self.new.current ≡ given C.BlockCipher.model kind self.new.inner.key last }
     {
-        for remainder in first..last {
+        for remainder in first..=last {
             self.make(kind, remainder);
         }
-        self.make(kind, last);
     }
 
     // Goes on from the inner key that it has, or begins with the key below; tells the first remainder whose

@@ -6,7 +6,7 @@ use Rattle.keys.proofs.walking.walk.Given as goal
 abbrev pub invariant-loop-number : goal.invariant-loop-number
 invariant-loop-number g l =
     let S = g.S.KeySource in
+    let C = g.C.BlockCipher.model in
     let e = l.initial.source in
-    let k = g.C.BlockCipher.model.key in
-    (S.stack l.source ≡ S.stack e) × (length l.key ≡ 32)
-    × (S.stands e ≡ None → Walked (quotas (S.stack e)) l.number (S.stands l.source) (S.ledgers l.source) × (drop k l.key ≡ drop k l.initial.key))
+    (S.stack l.source ≡ S.stack e) × (length l.key ≡ 32) × (drop C.key l.key ≡ drop C.key l.initial.key)
+    × (S.stands e ≡ None → Walked (quotas (S.stack e)) l.number (S.stands l.source) (S.ledgers l.source))
