@@ -1,8 +1,10 @@
 // Why a text gives no bytes.
 ghost use Rattle.std.specs.Prelude.{◌≡◌};
 ghost use Rattle.text.specs.Faults.{of_error};
+ghost use Rattle.text.specs.declared.fault.HexFault.TheVariants.{Memory as no_memory};
 
 use hex::FromHexError;
+use std::alloc::AllocFailed;
 
 #[derive(Clone, Copy, Debug, PartialEq, Eq)]
 pub enum HexFault {
@@ -20,5 +22,13 @@ impl From<FromHexError> for HexFault {
             FromHexError::OutOfMemory => HexFault::Memory,
             _ => HexFault::Digits,
         }
+    }
+}
+
+impl<T: Drop> From<AllocFailed<T>> for HexFault {
+    ghost from_gives = { λ _ f. f ≡ no_memory };
+
+    fn from(_refused: AllocFailed<T>) -> HexFault {
+        HexFault::Memory
     }
 }
