@@ -41,6 +41,6 @@ unfolding stood
 made_stack l fresh s P (Ok t) h = ap (λ b. left_by b l s) (sym h.0)
 made_stack l fresh s P (Err x) h = ap (λ b. left_by b l s) (sym h)
 
-pub at_limit : (l : Kind) (fresh : Bool) (s : Stack) → levels s ≡ 256 → AtLimit s (stood l fresh s)
-unfolding stood
-at_limit l fresh s e = grind (arith, nat_tests, number_some)
+pub at_limit : (l : Kind) (fresh : Bool) (s : Stack) (r : Result Step Refusal) → Planned (refused_by l fresh s) r (Numbers l s) → levels s ≡ 256 → AtLimit s (stack_of r l s)
+at_limit l fresh s (Ok t) h e = grind (arith, nat_tests, number_some)
+at_limit l fresh s (Err x) h e = grind (arith, nat_tests, number_some)

@@ -31,6 +31,7 @@ impl<C: BlockCipher, S: KeySource<C>> KeySource<C> for Level<C, S> {
 
     ghost ledgers = { λ s. ledgers_of s.step (levels_of (S.KeySource.stack s.below)) s.maker.made (S.KeySource.ledgers s.below) };
 
+    #[tactic(auto, using(crate::proofs::Made::facts_of))]
     fn count(&self) -> u32 {
         self.step.map_or(0, |step| step.count)
     }
@@ -109,6 +110,7 @@ impl<C: BlockCipher, S: KeySource<C>> Level<C, S> {
     }
 
     // Makes a level on a source. What is refused is a source all the same, without keys, and its note says why.
+    #[tactic(auto, using(crate::proofs::Made::made_sits, crate::proofs::Made::made_stack, crate::proofs::Made::at_limit))]
     pub fn stand(below: S, kind: Kind) -> Level<C, S>
         ensures stack { ⟦<Level<C, S> as KeySource<C>>⟧.stack result ≡ stood kind (is_none (S.KeySource.stands below)) (S.KeySource.stack below) }
         ensures stands { ⟦<Level<C, S> as KeySource<C>>⟧.stands result ≡ None }
