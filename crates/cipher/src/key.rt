@@ -1,5 +1,5 @@
 // The key of a cipher.
-ghost use Rattle.std.specs.Prelude.{◌≡◌, ◌-◌, ◌++◌, take, drop, replicate};
+ghost use Rattle.std.specs.Prelude.{◌≡◌, ◌≢◌, ◌-◌, ◌++◌, length, take, drop, replicate, MatchOption};
 
 use crate::{BlockCipher, KeyBuffer};
 use std::marker::{Model, PhantomData};
@@ -36,6 +36,18 @@ impl<C: BlockCipher> Key<C> {
         }
     }
 
+    // The key that these bytes are, where they are as many as a key has.
+    pub fn from_slice(bytes: &[u8]) -> Option<Key<C>>
+        ensures { MatchOption result (length bytes.now ≢ C.BlockCipher.model.key) (λ k. (length bytes.now ≡ C.BlockCipher.model.key) × (k ≡ bytes.now)) }
+    {
+        if bytes.len() != C::key_len() {
+            return None;
+        }
+        let mut buffer = [0; 32];
+        buffer[..bytes.len()].copy_from_slice(bytes);
+        Some(Key::new(&buffer))
+    }
+
     // The same key. It is not `Copy`: the borrow checker takes no copy of a type whose parameter has a bound.
     pub fn copy(&self) -> Key<C>
         ensures { result ≡ self.now }
@@ -55,7 +67,8 @@ impl<C: BlockCipher> Key<C> {
 
     // The bytes of the key.
     pub fn as_slice(&self) -> &[u8]
-        ensures { result.now ≡ self.now }
+        ensures value { result.now ≡ self.now }
+        ensures len { length result.now ≡ C.BlockCipher.model.key }
     {
         &self.bytes[..C::key_len()]
     }

@@ -1,11 +1,11 @@
 // A source of one key.
-ghost use Rattle.std.specs.Prelude.{◌≡◌, length, take, replicate, cond, is_some, unwrap_or, [], None};
+ghost use Rattle.std.specs.Prelude.{◌≡◌, length, replicate, cond, is_some, unwrap_or, [], None};
 ghost use Rattle.keys.specs.Bottom.{rooted};
 
 use crate::KeySource;
 use crate::bottom::Bottom;
 use crate::keys::Keys;
-use cipher::{BlockCipher, KeyBuffer};
+use cipher::{BlockCipher, Key};
 
 // Holds a lent key buffer, and fills it with zeros when it is let go.
 struct Wiped<'a>(&'a mut [u8]);
@@ -19,14 +19,14 @@ impl Drop for Wiped<'_> {
     }
 }
 
-// One key or none, in the first bytes of its buffer.
+// One key or none.
 #[derive(Drop)]
-pub struct OneKey(Option<KeyBuffer>);
+pub struct OneKey<C: BlockCipher>(Option<Key<C>>);
 
-impl<C: BlockCipher> Keys<C> for OneKey {
+impl<C: BlockCipher> Keys<C> for OneKey<C> {
     ghost count = { λ s. cond (is_some s.0) 1 0 };
 
-    ghost key = { λ s _. take C.BlockCipher.model.key (unwrap_or s.0 []) };
+    ghost key = { λ s _. unwrap_or s.0 [] };
 
     fn count(&self) -> u32 {
         self.0.is_some() as u32
@@ -36,13 +36,12 @@ impl<C: BlockCipher> Keys<C> for OneKey {
         if number > 0 {
             return None;
         }
-        let key = self.0.as_ref()?;
-        Some(&key[..C::key_len()])
+        Some(self.0.as_ref()?.as_slice())
     }
 }
 
 // A source of one key.
-pub type Root<C> = Bottom<C, OneKey>;
+pub type Root<C> = Bottom<C, OneKey<C>>;
 
 impl<C: BlockCipher> Root<C> {
     // Takes the key out of the buffer, and leaves zeros there, also where the buffer does not hold one key.
@@ -52,12 +51,6 @@ impl<C: BlockCipher> Root<C> {
         ensures stands { ⟦<Root<C> as KeySource<C>>⟧.stands result ≡ None }
     {
         let guard = Wiped(buffer);
-        let n = C::key_len();
-        if guard.0.len() != n {
-            return Bottom::new(OneKey(None));
-        }
-        let mut key = [0; 32];
-        key[..n].copy_from_slice(guard.0);
-        Bottom::new(OneKey(Some(key)))
+        Bottom::new(OneKey(Key::from_slice(guard.0)))
     }
 }
