@@ -1,4 +1,4 @@
-// The makings of the five kinds of level.
+// The makings of the five kinds of level: one function for each, since each takes its own numbers.
 ghost use Rattle.std.specs.Prelude.{◌≡◌, is_none, None};
 ghost use Rattle.rules.specs.Levels.{branch as branch_of, fan as fan_of, serial as serial_of, chain as chain_of, master as master_of};
 ghost use Rattle.levels.specs.Making.{stood};
