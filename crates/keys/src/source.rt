@@ -50,7 +50,8 @@ pub trait KeySource<C: BlockCipher>: Sized + Drop {
     fn note(&self) -> Result<u32, Refusal>
         ensures { result ≡ note_of (stack self.now) };
 
-    // Moves to a key's number, and writes the key.
+    // Moves to a key's number, and writes the key. The buffer is as long as any cipher's key, so that no call has a
+    // condition on its length.
     fn move_to(&mut self, number: u32, key: &mut KeyBuffer) -> Result<(), MoveFault>
         ensures stack { stack self.new ≡ stack self.old }
         ensures cases { MatchResult result

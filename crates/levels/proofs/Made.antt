@@ -25,16 +25,16 @@ count_some (on l s) a = let low = count_some s a.0 in grind (arith, mul-pos, quo
 count_some (refused x qs) a = absurd a
 
 -- what holds of a level in every state
-pub facts_of : {D : Type 0} (c : Model) (s : Stack) (below : Option ℕ) (low : ℕ → ℕ) (l : Kind) (r : Result Step Refusal) (at : Option ℕ) (made : Maker D)
-    → Sits c s below low l r at made → Facts (stack_of r l s) at (ledgers_of r (levels s) made.made low)
-facts_of c s below low l (Ok t) at made h = let some = count_some (on l s) h.accepted in grind (arith, nat_tests)
-facts_of c s below low l (Err x) at made h = let some = number_some x.fault in grind (arith, nat_tests)
+pub facts_of : {D : Type 0} (c : Model) (s : Stack) (below : Option ℕ) (low : ℕ → ℕ) (l : Kind) (r : Result Step Refusal) (at : Option ℕ) (maker : Maker D)
+    → Sits c s below low l r at maker → Facts (stack_of r l s) at (ledgers_of r (levels s) maker.made low)
+facts_of c s below low l (Ok t) at maker h = let some = count_some (on l s) h.accepted in grind (arith, nat_tests)
+facts_of c s below low l (Err x) at maker h = let some = number_some x.fault in grind (arith, nat_tests)
 
 -- a level that is made over a source
-pub made_sits : {D : Type 0} (c : Model) (s : Stack) (below : Option ℕ) (low : ℕ → ℕ) (l : Kind) (made : Maker D) (r : Result Step Refusal) → made.made ≡ 0
-    → IfOk r (λ _. Facts s below low) → Planned (refused_by l (is_none below) s) r (Numbers l s) → Sits c s below low l r None made
-made_sits c s below low l made (Ok t) none facts h = grind (arith, nat_tests)
-made_sits c s below low l made (Err x) none facts h = refl
+pub made_sits : {D : Type 0} (c : Model) (s : Stack) (below : Option ℕ) (low : ℕ → ℕ) (l : Kind) (maker : Maker D) (r : Result Step Refusal) → maker.made ≡ 0
+    → IfOk r (λ _. Facts s below low) → Planned (refused_by l (is_none below) s) r (Numbers l s) → Sits c s below low l r None maker
+made_sits c s below low l maker (Ok t) none facts h = grind (arith, nat_tests)
+made_sits c s below low l maker (Err x) none facts h = refl
 
 pub made_stack : (l : Kind) (fresh : Bool) (s : Stack) (P : Step → Type 0) (r : Result Step Refusal) → Planned (refused_by l fresh s) r P → stack_of r l s ≡ stood l fresh s
 unfolding stood

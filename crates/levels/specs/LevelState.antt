@@ -24,23 +24,23 @@ ledgers_of (Ok t) n made low j = cond (j == n) made (low j)
 ledgers_of (Err x) n made low j = 0
 
 -- a level stands at i: its inner key and its current key are those of i
-pub record Here {D : Type 0} (c : Model) (s : Stack) (l : Kind) (t : Step) (made : Maker D) (i : ℕ) : Type 0 where
+pub record Here {D : Type 0} (c : Model) (s : Stack) (l : Kind) (t : Step) (maker : Maker D) (i : ℕ) : Type 0 where
   pub within : i < t.count
   pub remainder_is : t.remainder ≡ i % t.quota
-  pub stage_is : made.inner.stage ≡ stage l (i % t.quota)
-  pub inner_is : IsInner c l (key c s (i / t.quota)) made.inner
-  pub current_is : made.current ≡ level_key c l (key c s (i / t.quota)) (i % t.quota)
+  pub stage_is : maker.inner.stage ≡ stage l (i % t.quota)
+  pub inner_is : IsInner c l (key c s (i / t.quota)) maker.inner
+  pub current_is : maker.current ≡ level_key c l (key c s (i / t.quota)) (i % t.quota)
 
 -- an accepted level on s, which stands at `below` and has the ledgers `low`
-pub record Stands {D : Type 0} (c : Model) (s : Stack) (below : Option ℕ) (low : ℕ → ℕ) (l : Kind) (t : Step) (at : Option ℕ) (made : Maker D) : Type 0 where
+pub record Stands {D : Type 0} (c : Model) (s : Stack) (below : Option ℕ) (low : ℕ → ℕ) (l : Kind) (t : Step) (at : Option ℕ) (maker : Maker D) : Type 0 where
   pub accepted : Accepted (on l s)
   pub count_is : t.count ≡ count s * t.quota
   pub quota_is : t.quota ≡ quota l
   pub tied : below ≡ div t.quota at
-  pub fresh : at ≡ None → (made.made ≡ 0) × ((j : ℕ) → low j ≡ 0)
-  pub here : IfSome at (Here c s l t made)
+  pub fresh : at ≡ None → (maker.made ≡ 0) × ((j : ℕ) → low j ≡ 0)
+  pub here : IfSome at (Here c s l t maker)
 
 -- a level on s: it was accepted, or it stands nowhere
 abbrev pub Sits : {D : Type 0} → Model → Stack → Option ℕ → (ℕ → ℕ) → Kind → Result Step Refusal → Option ℕ → Maker D → Type 0
-Sits c s below low l (Ok t) at made = Stands c s below low l t at made
-Sits c s below low l (Err x) at made = at ≡ None
+Sits c s below low l (Ok t) at maker = Stands c s below low l t at maker
+Sits c s below low l (Err x) at maker = at ≡ None

@@ -19,14 +19,14 @@ Accepted-prop (bottom m k w) = hlevel props
 Accepted-prop (on l s) = hlevel (props, Accepted-prop s)
 Accepted-prop (refused x qs) = hlevel props
 
-module _ {D : Type 0} (c : Model) (s : Stack) (l : Kind) (t : Step) (made : Maker D) where
-  Here-prop : (i : ℕ) → IsProp (Here c s l t made i)
+module _ {D : Type 0} (c : Model) (s : Stack) (l : Kind) (t : Step) (maker : Maker D) where
+  Here-prop : (i : ℕ) → IsProp (Here c s l t maker i)
   Here-prop i x y =
       let within_prop : IsProp (i < t.count) = hlevel props in
       let remainder_prop : IsProp (t.remainder ≡ i % t.quota) = hlevel props in
-      let stage_prop : IsProp (made.inner.stage ≡ stage l (i % t.quota)) = hlevel props in
-      let inner_prop : IsProp (IsInner c l (key c s (i / t.quota)) made.inner) = hlevel props in
-      let current_prop : IsProp (made.current ≡ level_key c l (key c s (i / t.quota)) (i % t.quota)) = hlevel props in
+      let stage_prop : IsProp (maker.inner.stage ≡ stage l (i % t.quota)) = hlevel props in
+      let inner_prop : IsProp (IsInner c l (key c s (i / t.quota)) maker.inner) = hlevel props in
+      let current_prop : IsProp (maker.current ≡ level_key c l (key c s (i / t.quota)) (i % t.quota)) = hlevel props in
       λ k. record {
         within = within_prop x.within y.within k;
         remainder_is = remainder_prop x.remainder_is y.remainder_is k;
@@ -35,17 +35,17 @@ module _ {D : Type 0} (c : Model) (s : Stack) (l : Kind) (t : Step) (made : Make
         current_is = current_prop x.current_is y.current_is k;
       }
 
-  At-prop : (at : Option ℕ) → IsProp (IfSome at (Here c s l t made))
+  At-prop : (at : Option ℕ) → IsProp (IfSome at (Here c s l t maker))
   At-prop None = hlevel props
   At-prop (Some i) = Here-prop i
 
-  Stands-prop : (below : Option ℕ) (low : ℕ → ℕ) (at : Option ℕ) → IsProp (Stands c s below low l t at made)
+  Stands-prop : (below : Option ℕ) (low : ℕ → ℕ) (at : Option ℕ) → IsProp (Stands c s below low l t at maker)
   Stands-prop below low at x y =
       let accepted_prop : IsProp (Accepted (on l s)) = Accepted-prop (on l s) in
       let count_prop : IsProp (t.count ≡ count s * t.quota) = hlevel props in
       let quota_prop : IsProp (t.quota ≡ quota l) = hlevel props in
       let tied_prop : IsProp (below ≡ div t.quota at) = hlevel props in
-      let fresh_prop : IsProp (at ≡ None → (made.made ≡ 0) × ((j : ℕ) → low j ≡ 0)) = hlevel props in
+      let fresh_prop : IsProp (at ≡ None → (maker.made ≡ 0) × ((j : ℕ) → low j ≡ 0)) = hlevel props in
       λ k. record {
         accepted = accepted_prop x.accepted y.accepted k;
         count_is = count_prop x.count_is y.count_is k;
@@ -55,7 +55,7 @@ module _ {D : Type 0} (c : Model) (s : Stack) (l : Kind) (t : Step) (made : Make
         here = At-prop at x.here y.here k;
       }
 
-pub Sits-prop : {D : Type 0} (c : Model) (s : Stack) (below : Option ℕ) (low : ℕ → ℕ) (l : Kind) (r : Result Step Refusal) (at : Option ℕ) (made : Maker D)
-    → IsProp (Sits c s below low l r at made)
-Sits-prop c s below low l (Ok t) at made = Stands-prop c s l t made below low at
-Sits-prop c s below low l (Err x) at made = hlevel props
+pub Sits-prop : {D : Type 0} (c : Model) (s : Stack) (below : Option ℕ) (low : ℕ → ℕ) (l : Kind) (r : Result Step Refusal) (at : Option ℕ) (maker : Maker D)
+    → IsProp (Sits c s below low l r at maker)
+Sits-prop c s below low l (Ok t) at maker = Stands-prop c s l t maker below low at
+Sits-prop c s below low l (Err x) at maker = hlevel props
