@@ -1,13 +1,14 @@
 -- KeyExpansion, a word at a time, and the key that it begins with. Assumes nothing.
-use Rattle.std.proofs.Common.{◌≡◌, ℕ, zero, suc, ◌+◌, ◌-◌, ◌*◌, ◌<◌, ◌≤◌, List, [], ◌∷◌, ◌++◌, map, length, get_or, take, set, sym, refl, ap, ◌∙◌, append_assoc, add-zero, zero-add, add-one, arith, get_or-take}
+use Rattle.std.proofs.Common.{◌≡◌, ℕ, zero, suc, ◌+◌, ◌-◌, ◌*◌, ◌<◌, ◌≤◌, List, [], ◌∷◌, ◌++◌, map, length, get_or, take, set, sym, refl, ap, ◌∙◌, add-zero, zero-add, add-one, arith, get_or-take}
 use Rattle.std.specs.List.{range_with_len}
 use Rattle.std.proofs.lemmas.List.FromFn.{length-map-range_with_len, map-range_with_len_more}
-use Rattle.std.proofs.lemmas.List.{take_all, take_more, take_more_set, take-append-le, length_push, flat_map_more}
+use Rattle.std.proofs.lemmas.List.{take_all, take_more_set, take-append-le, take-append-drop, take-take, drop-take, length_push, flat_map_more}
 use Rattle.cipher.specs.Bytes.{word, word_bytes}
 use Rattle.cipher.proofs.Words.{bytes_word4}
 use Rattle.aes.specs.Field.{◌⊕◌}
 use Rattle.aes.specs.Aes.{expanded, temp}
 use Rattle.aes.specs.Words.{four_at, bytes_of}
+use Rattle.aes.proofs.States.{take_drop}
 
 -- the word that the code writes at i is the next of the expansion
 pub expanded_more : (nk : ℕ) (key w : List ℕ) (i : ℕ) → 0 < nk → nk ≤ i → i < length w → take i w ≡ expanded nk (i - nk) key
@@ -37,18 +38,10 @@ first_words nk (suc n) key =
     take-append-le nk (expanded nk n key) _ (omega arith) ∙ first_words nk n key
 
 -- four more bytes of a list
-one_more : (xs ys : List ℕ) (i n : ℕ) → i + n < length xs → take (i + n) xs ≡ take i xs ++ ys
-    → take (i + suc n) xs ≡ take i xs ++ (ys ++ get_or xs (i + n) 0 ∷ [])
-one_more xs ys i n h e =
-    let m : i + suc n ≡ i + n + 1 = omega arith in
-    ap (λ l. take l xs) m ∙ take_more xs (i + n) 0 h ∙ ap (λ l. l ++ get_or xs (i + n) 0 ∷ []) e ∙ append_assoc (take i xs) ys (get_or xs (i + n) 0 ∷ [])
-
-take_four : (xs : List ℕ) (i : ℕ) → i + 3 < length xs → take (i + 4) xs ≡ take i xs ++ four_at xs i
+take_four : (xs : List ℕ) (i : ℕ) → i + 4 ≤ length xs → take (i + 4) xs ≡ take i xs ++ four_at xs i
 take_four xs i h =
-    let one = take_more xs i 0 (omega arith) in
-    let two = one_more xs (get_or xs i 0 ∷ []) i 1 (omega arith) one in
-    let three = one_more xs (get_or xs i 0 ∷ get_or xs (i + 1) 0 ∷ []) i 2 (omega arith) two in
-    one_more xs (get_or xs i 0 ∷ get_or xs (i + 1) 0 ∷ get_or xs (i + 2) 0 ∷ []) i 3 h three
+    let next = drop-take i 4 xs ∙ take_drop xs i h in
+    sym (take-append-drop i (take (i + 4) xs)) ∙ (λ j. take-take i (i + 4) xs (omega arith) j ++ next j)
 
 -- the words of a key hold its bytes
 pub bytes_of_words : (nk : ℕ) (key : List ℕ) → 4 * nk ≤ length key → ((i : ℕ) → get_or key i 0 < 256)

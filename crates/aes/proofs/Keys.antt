@@ -1,22 +1,13 @@
 -- The round keys in the words of an expanded key. Assumes nothing.
-use Rattle.std.specs.Prelude.{◌≡◌, ℕ, zero, suc, ◌+◌, ◌-◌, ◌*◌, ◌<◌, ◌≤◌, List, [], ◌∷◌, ◌++◌, map, reverse, fold, length, take, drop, slice_index, refl}
+use Rattle.std.specs.Prelude.{◌≡◌, ℕ, zero, suc, ◌+◌, ◌-◌, ◌*◌, ◌≤◌, List, [], ◌∷◌, ◌++◌, map, reverse, fold, length, take, drop, refl}
 use Rattle.std.specs.List.{range_with_len}
 use Rattle.std.specs.Simd.{first_chunks}
-use Rattle.std.proofs.Common.{sym, ap, ◌∙◌, add-zero, add-one, arith, get_or-take, get_or-drop}
-use Rattle.std.proofs.lemmas.List.{drop-drop, length-take, length-drop, reverse-append}
+use Rattle.std.proofs.Common.{sym, ap, ◌∙◌, add-one, arith}
+use Rattle.std.proofs.lemmas.List.{drop-drop, reverse-append}
 use Rattle.std.proofs.lemmas.List.FromFn.{map-range_with_len_more, take-map-range_with_len}
 use Rattle.std.proofs.lemmas.List.Sums.{fold-append}
 use Rattle.aes.specs.Aes.{round_key, round, rounds, inv_round, inv_rounds}
-use Rattle.aes.specs.Words.{four_at}
-use Rattle.aes.proofs.States.{four}
-
--- four words from i on
-take_drop : (w : List ℕ) (i : ℕ) → i + 4 ≤ length w → take 4 (drop i w) ≡ four_at w i
-take_drop w i h =
-    let long : length (take 4 (drop i w)) ≡ 4 = simp (length-take, length-drop) (omega arith) in
-    let at : (k : ℕ) → k < 4 → slice_index (take 4 (drop i w)) k ≡ slice_index w (i + k) = λ k l. get_or-take 4 (drop i w) k 0 l ∙ get_or-drop i w k 0 in
-    four (take 4 (drop i w)) long
-    ∙ (λ j. (at 0 (omega arith) ∙ ap (slice_index w) (add-zero i)) j ∷ at 1 (omega arith) j ∷ at 2 (omega arith) j ∷ at 3 (omega arith) j ∷ [])
+use Rattle.aes.proofs.States.{take_drop}
 
 chunks_from : (n i : ℕ) (w : List ℕ) → 4 * i + 4 * n ≤ length w → first_chunks 4 n (drop (4 * i) w) ≡ map (round_key w) (range_with_len i n)
 chunks_from zero i w h = refl

@@ -1,7 +1,7 @@
 -- States of 16 bytes, and their columns. Assumes nothing.
-use Rattle.std.specs.Prelude.{◌≡◌, ℕ, List, [], ◌∷◌, ◌++◌, length, take, drop, slice_index, slice_index_or, refl}
-use Rattle.std.proofs.Common.{ap, ◌∙◌, le_of_eq}
-use Rattle.std.proofs.lemmas.List.{take_all, drop_all, append-nil}
+use Rattle.std.specs.Prelude.{◌≡◌, ℕ, ◌+◌, ◌<◌, ◌≤◌, List, [], ◌∷◌, ◌++◌, length, take, drop, slice_index, slice_index_or, refl}
+use Rattle.std.proofs.Common.{ap, ◌∙◌, le_of_eq, add-zero, arith, get_or-take, get_or-drop}
+use Rattle.std.proofs.lemmas.List.{take_all, drop_all, append-nil, length-take, length-drop}
 use Rattle.std.proofs.lemmas.List.FromFn.{fill_by_all}
 use Rattle.cipher.specs.Bytes.{word_bytes}
 use Rattle.aes.specs.Words.{four_at, bytes_of}
@@ -15,6 +15,14 @@ whole f b l =
 -- a list of four, written out
 pub four : (s : List ℕ) → length s ≡ 4 → s ≡ four_at s 0
 four s h = fill_by_all (λ k. slice_index s k) s 4 0 h (λ k l. refl)
+
+-- four elements from i on
+pub take_drop : (w : List ℕ) (i : ℕ) → i + 4 ≤ length w → take 4 (drop i w) ≡ four_at w i
+take_drop w i h =
+    let long : length (take 4 (drop i w)) ≡ 4 = simp (length-take, length-drop) (omega arith) in
+    let at : (k : ℕ) → k < 4 → slice_index (take 4 (drop i w)) k ≡ slice_index w (i + k) = λ k l. get_or-take 4 (drop i w) k 0 l ∙ get_or-drop i w k 0 in
+    four (take 4 (drop i w)) long
+    ∙ (λ j. (at 0 (omega arith) ∙ ap (slice_index w) (add-zero i)) j ∷ at 1 (omega arith) j ∷ at 2 (omega arith) j ∷ at 3 (omega arith) j ∷ [])
 
 -- the bytes of four words, each of known bytes
 pub by_columns : (ws : List ℕ) → length ws ≡ 4 → {a b c d : List ℕ}

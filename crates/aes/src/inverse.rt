@@ -28,7 +28,7 @@ fn inv_shift_rows(s: Columns) -> [[u8; 4]; 4]
     ]
 }
 
-// InvSubBytes of a column.
+// InvSubBytes of a column: the line of sub_bytes with the other look-up, shorter than one function over look-ups would be.
 fn inv_sub_bytes(column: [u8; 4]) -> u32
     ensures { word_bytes result ≡ map inv_s_box_of column }
 {
