@@ -2,10 +2,11 @@
 ghost use Rattle.std.specs.Prelude.{◌≡◌, ℕ, List, ◌++◌, take, drop};
 ghost use Rattle.cipher.specs.Model.{Model, Laws};
 
-// Room for a block of any cipher: a block of n bytes is the first n.
+// Room for a block of any cipher: a block of n bytes is the first n. With n as a const parameter of the trait, each
+// signature of the sources, levels and stacks above would carry it, and none of them handles a block.
 pub type BlockBuffer = [u8; 16];
 
-// Room for a key of any cipher: a key of k bytes is the first k.
+// Room for a key of any cipher, as callers hand it in: a key of k bytes is the first k.
 pub type KeyBuffer = [u8; 32];
 
 // A block cipher: two functions of a key and a block, of which one undoes the other.
