@@ -1,9 +1,10 @@
 // A block cipher, as all code above sees it.
-ghost use Rattle.std.specs.Prelude.{◌≡◌, ℕ, List, ◌++◌, take, drop};
+ghost use Rattle.std.specs.Prelude.{◌≡◌, ℕ, List};
 ghost use Rattle.cipher.specs.Model.{Model, Laws};
 
-// Room for a block of any cipher: a block of n bytes is the first n. With n as a const parameter of the trait, each
-// signature of the sources, levels and stacks above would carry it, and none of them handles a block.
+use crate::{Block, Key};
+
+// Room for a block of any cipher: a block of n bytes is the first n.
 pub type BlockBuffer = [u8; 16];
 
 // Room for a key of any cipher, as callers hand it in: a key of k bytes is the first k.
@@ -25,16 +26,16 @@ pub trait BlockCipher: Sized + Drop {
         ensures { result ≡ model.key };
 
     // Makes the cipher ready to work under a key.
-    fn schedule(key: &KeyBuffer) -> Self
-        ensures { keyed result ≡ take model.key key.now };
+    fn schedule(key: &Key<Self>) -> Self
+        ensures { keyed result ≡ key.now };
 
-    // Replaces a block by E of it; the bytes past the block stay.
-    fn encipher(&self, block: &mut BlockBuffer)
-        ensures { block.new ≡ model.enc (keyed self.now) (take model.block block.old) ++ drop model.block block.old };
+    // Replaces a block by E of it.
+    fn encipher(&self, block: &mut Block<Self>)
+        ensures { block.new ≡ model.enc (keyed self.now) block.old };
 
-    // Replaces a block by D of it; the bytes past the block stay.
-    fn decipher(&self, block: &mut BlockBuffer)
-        ensures { block.new ≡ model.dec (keyed self.now) (take model.block block.old) ++ drop model.block block.old };
+    // Replaces a block by D of it.
+    fn decipher(&self, block: &mut Block<Self>)
+        ensures { block.new ≡ model.dec (keyed self.now) block.old };
 
     ghost laws: { Laws model };
 }

@@ -5,7 +5,7 @@ ghost use Rattle.cipher.specs.Bytes.{number};
 ghost use Rattle.cipher.specs.Derivation.{parts, made, marked, renewed, derived, numbered_key, master_key};
 ghost use Rattle.cipher.specs.KeyBlocks.{block as block_of};
 
-use crate::{BlockBuffer, BlockCipher, Key};
+use crate::{Block, BlockCipher, Key};
 
 // The blocks that are enciphered, one after the other, to make a key. Closures that make the blocks would each repeat
 // their blocks' contract where they are written.
@@ -73,14 +73,15 @@ impl KeyBlocks {
     }
 }
 
-// E of block j, in the first bytes.
-fn enciphered<C: BlockCipher>(cipher: &C, blocks: KeyBlocks, j: usize) -> BlockBuffer
+// E of block j.
+fn enciphered<C: BlockCipher>(cipher: &C, blocks: KeyBlocks, j: usize) -> Block<C>
     requires { j < parts C.BlockCipher.model }
-    ensures { take C.BlockCipher.model.block result ≡ C.BlockCipher.model.enc (C.BlockCipher.keyed cipher.now) (block_of C.BlockCipher.model.block blocks j) }
+    ensures { result ≡ C.BlockCipher.model.enc (C.BlockCipher.keyed cipher.now) (block_of C.BlockCipher.model.block blocks j) }
 {
     let n = C::block_len();
-    let mut block = [0; 16];
-    blocks.write(j, &mut block[0..n]);
+    let mut buffer = [0; 16];
+    blocks.write(j, &mut buffer[..n]);
+    let mut block = Block::new(&buffer);
     cipher.encipher(&mut block);
     block
 }
@@ -89,13 +90,13 @@ fn enciphered<C: BlockCipher>(cipher: &C, blocks: KeyBlocks, j: usize) -> BlockB
 fn make<C: BlockCipher>(key: &Key<C>, blocks: KeyBlocks) -> Key<C>
     ensures { result ≡ made C.BlockCipher.model key.now (block_of C.BlockCipher.model.block blocks) }
 {
-    let cipher = key.schedule();
+    let cipher = C::schedule(key);
     let n = C::block_len();
     let mut out = [0; 32];
     // By its number j: of a slice cut by `chunks_exact_mut` only the length is known after the loop.
     for j in 0..C::key_len() / n {
         let block = enciphered(&cipher, blocks, j);
-        out[j * n..j * n + n].copy_from_slice(&block[0..n]);
+        out[j * n..j * n + n].copy_from_slice(block.as_slice());
     }
     Key::new(&out)
 }

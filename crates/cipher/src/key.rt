@@ -58,13 +58,6 @@ impl<C: BlockCipher> Key<C> {
         }
     }
 
-    // The cipher, ready to work under the key.
-    pub fn schedule(&self) -> C
-        ensures { C.BlockCipher.keyed result ≡ self.now }
-    {
-        C::schedule(&self.bytes)
-    }
-
     // The bytes of the key.
     pub fn as_slice(&self) -> &[u8]
         ensures value { result.now ≡ self.now }

@@ -1,4 +1,4 @@
-use Rattle.std.proofs.Common.{◌≡◌, ℕ, ◌+◌, ◌-◌, ◌*◌, ◌/◌, ◌≤◌, List, length, take, sym, ap, ◌∙◌, arith}
+use Rattle.std.proofs.Common.{◌≡◌, ℕ, ◌+◌, ◌*◌, ◌/◌, ◌≤◌, List, length, take, sym, ap, ◌∙◌, arith}
 use Rattle.std.specs.List.{range_with_len, flat_map}
 use Rattle.cipher.specs.Derivation.{parts, made}
 use Rattle.cipher.specs.KeyBlocks.{block}
@@ -14,10 +14,9 @@ loop-j-preserved g c =
     let j = c.loop-j.j in
     let part = c.copy_from_slice.new.self in
     let h : j * n + n ≤ 32 = told_within m g.met.C.BlockCipher.laws _ _ j c.block_len-n.ensures c.key_len.ensures c.loop-j-test.true in
-    let width : n - 0 ≡ m.block = omega (arith, c.block_len-n.ensures) in
     let long : length part ≡ n = c.copy_from_slice.auto.self ∙ simp (length-take, length-drop) (omega arith) in
     let is : part ≡ m.enc c.args.key.now (block m.block c.args.blocks j) =
-    c.copy_from_slice.ensures.after ∙ ap (λ k. take k c.enciphered-block.result) width ∙ c.enciphered-block.ensures
+    c.copy_from_slice.ensures.after ∙ c.as_slice.ensures.value ∙ c.enciphered-block.ensures
     ∙ ap (λ k. m.enc k (block m.block c.args.blocks j)) c.schedule-cipher.ensures in
     joined_step (λ i. m.enc c.args.key.now (block m.block c.args.blocks i)) n j c.loop-j.out part (omega arith) long is c.loop-j.invariant
 

@@ -1,0 +1,55 @@
+// The block of a cipher.
+ghost use Rattle.std.specs.Prelude.{◌≡◌, ◌++◌, length, take, drop};
+
+use crate::{BlockBuffer, BlockCipher};
+use std::marker::{Model, PhantomData};
+
+// A block of a cipher, at the front of room for any.
+#[derive(Drop)]
+pub struct Block<C: BlockCipher> {
+    bytes: BlockBuffer,
+    cipher: PhantomData<C>,
+}
+
+// Clauses see the bytes of the block.
+impl<C: BlockCipher> Model for Block<C> {
+    ghost use Rattle.std.specs.Prelude.{ℕ, List, take};
+
+    ghost Value = { List ℕ };
+
+    ghost view = { λ b. take C.BlockCipher.model.block b.bytes };
+}
+
+impl<C: BlockCipher> Block<C> {
+    // The block in the first bytes of a buffer.
+    pub fn new(buffer: &BlockBuffer) -> Block<C>
+        ensures { result ≡ take C.BlockCipher.model.block buffer.now }
+    {
+        Block {
+            bytes: *buffer,
+            cipher: PhantomData,
+        }
+    }
+
+    // The bytes of the block.
+    pub fn as_slice(&self) -> &[u8]
+        ensures value { result.now ≡ self.now }
+        ensures len { length result.now ≡ C.BlockCipher.model.block }
+    {
+        &self.bytes[..C::block_len()]
+    }
+
+    // A buffer with the block in its first bytes.
+    pub fn buffer(&self) -> BlockBuffer
+        ensures { take C.BlockCipher.model.block result ≡ self.now }
+    {
+        self.bytes
+    }
+
+    // Writes the block to the first bytes of a buffer; the others stay.
+    pub fn write(&self, buffer: &mut BlockBuffer)
+        ensures { buffer.new ≡ self.now ++ drop C.BlockCipher.model.block buffer.old }
+    {
+        buffer[..C::block_len()].copy_from_slice(self.as_slice());
+    }
+}
