@@ -13,7 +13,7 @@ ghost use Rattle.aes.specs.Aes.{key_expansion as key_expansion_of, the_model};
 ghost use Rattle.aes.specs.Words.{bytes_of};
 ghost use Rattle.aes.specs.Law;
 
-use cipher::{BlockBuffer, BlockCipher, KeyBuffer};
+use cipher::{Block, BlockCipher, Key};
 
 // The rounds.
 const NR: usize = 14;
@@ -43,17 +43,17 @@ impl BlockCipher for Aes256 {
         32
     }
 
-    fn schedule(key: &KeyBuffer) -> Aes256 {
+    fn schedule(key: &Key<Aes256>) -> Aes256 {
         let mut words = [0; WORDS];
-        schedule::key_expansion(key, &mut words);
+        schedule::key_expansion(&key.bytes, &mut words);
         Aes256 { words }
     }
 
-    fn encipher(&self, block: &mut BlockBuffer) {
-        *block = rounds::cipher(block, &self.words);
+    fn encipher(&self, block: &mut Block<Aes256>) {
+        block.bytes = rounds::cipher(&block.bytes, &self.words);
     }
 
-    fn decipher(&self, block: &mut BlockBuffer) {
-        *block = inverse::inv_cipher(block, &self.words);
+    fn decipher(&self, block: &mut Block<Aes256>) {
+        block.bytes = inverse::inv_cipher(&block.bytes, &self.words);
     }
 }

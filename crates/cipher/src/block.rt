@@ -4,10 +4,11 @@ ghost use Rattle.std.specs.Prelude.{◌≡◌, ◌++◌, length, take, drop};
 use crate::{BlockBuffer, BlockCipher};
 use std::marker::{Model, PhantomData};
 
-// A block of a cipher, at the front of room for any.
+// A block of a cipher, at the front of room for any. The room is open to those who write a cipher, since what makes one
+// cannot call what is made of one.
 #[derive(Drop)]
 pub struct Block<C: BlockCipher> {
-    bytes: BlockBuffer,
+    pub bytes: BlockBuffer,
     cipher: PhantomData<C>,
 }
 
@@ -37,13 +38,6 @@ impl<C: BlockCipher> Block<C> {
         ensures len { length result.now ≡ C.BlockCipher.model.block }
     {
         &self.bytes[..C::block_len()]
-    }
-
-    // A buffer with the block in its first bytes.
-    pub fn buffer(&self) -> BlockBuffer
-        ensures { take C.BlockCipher.model.block result ≡ self.now }
-    {
-        self.bytes
     }
 
     // Writes the block to the first bytes of a buffer; the others stay.

@@ -4,10 +4,11 @@ ghost use Rattle.std.specs.Prelude.{◌≡◌, ◌≢◌, ◌-◌, ◌++◌, len
 use crate::{BlockCipher, KeyBuffer};
 use std::marker::{Model, PhantomData};
 
-// The key of a cipher, at the front of room for any; zeros stand behind a shorter one.
+// The key of a cipher, at the front of room for any; zeros stand behind a shorter one. The room is open to those who
+// write a cipher, as that of a block.
 #[derive(Drop)]
 pub struct Key<C: BlockCipher> {
-    bytes: KeyBuffer,
+    pub bytes: KeyBuffer,
     cipher: PhantomData<C>,
 }
 
@@ -64,13 +65,6 @@ impl<C: BlockCipher> Key<C> {
         ensures len { length result.now ≡ C.BlockCipher.model.key }
     {
         &self.bytes[..C::key_len()]
-    }
-
-    // The bytes of the key, and zeros behind them.
-    pub fn buffer(&self) -> KeyBuffer
-        ensures { result ≡ self.now ++ replicate (32 - C.BlockCipher.model.key) 0 }
-    {
-        self.bytes
     }
 
     // Writes the key to the first bytes of a buffer; the others stay.

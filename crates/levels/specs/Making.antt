@@ -18,16 +18,18 @@ barred_by l fresh renewed n m =
     let a = on_source l fresh renewed n m in
     when a OutOfRange (when a NotFresh (when a KeysRenewed (when a TooLarge None)))
 
+-- the same of a level on s that is fresh or not
 abbrev pub barred : Kind → Bool → Stack → Option MakingFault
 barred l fresh s = barred_by l fresh (renews_keys s) (levels s) (count s)
 
--- why a level is not made on a source of n levels with this note: a refusal of the source is passed on whole, and the
--- first that applies to the level is noted with its number, or that of the last level there can be
+-- why a level is not made on a source of n levels with this note: a refusal of the source is passed on whole, and
+-- otherwise the first that applies is told with the level that was to be made, or 255 where there is no such level
 abbrev pub passed_on : Result ℕ Refusal → Option MakingFault → ℕ → Option Refusal
 passed_on (Err x) b n = Some x
 passed_on (Ok own) (Some f) n = Some (record { level = min n 255; fault = f })
 passed_on (Ok own) None n = None
 
+-- the same of a level on s that is fresh or not
 abbrev pub refused_by : Kind → Bool → Stack → Option Refusal
 refused_by l fresh s = passed_on (note s) (barred l fresh s) (levels s)
 
@@ -35,6 +37,7 @@ refused_by l fresh s = passed_on (note s) (barred l fresh s) (levels s)
 abbrev pub idle_quotas : Stack → List ℕ
 idle_quotas s = cond (nat_lt (levels s) 256) (1 ∷ quotas s) (quotas s)
 
+-- what is left on s: the level, or its refusal
 abbrev pub left_by : Option Refusal → Kind → Stack → Stack
 left_by None l s = on l s
 left_by (Some x) l s = refused x (idle_quotas s)

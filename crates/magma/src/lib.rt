@@ -11,10 +11,10 @@ ghost use Rattle.std.specs.Prelude.{◌≡◌};
 ghost use Rattle.magma.specs.Magma.{key_words as key_words_of, key_bytes, the_model};
 ghost use Rattle.magma.specs.Law;
 
-use cipher::{BlockBuffer, BlockCipher, KeyBuffer};
+use cipher::{Block, BlockCipher, Key};
 use rounds::{decipher_halves, encipher_halves};
 pub use substitution::substitute;
-use words::{halves, key_words, write_halves};
+use words::{halves, key_words, whole};
 
 // Magma under a key, of which the words K_1 to K_8 are kept: their bytes are the key.
 #[derive(Drop)]
@@ -38,19 +38,19 @@ impl BlockCipher for Magma {
         32
     }
 
-    fn schedule(key: &KeyBuffer) -> Magma {
+    fn schedule(key: &Key<Magma>) -> Magma {
         Magma {
-            words: key_words(key),
+            words: key_words(&key.bytes),
         }
     }
 
-    fn encipher(&self, block: &mut BlockBuffer) {
-        let a = halves(block);
-        write_halves(block, encipher_halves(&self.words, a));
+    fn encipher(&self, block: &mut Block<Magma>) {
+        let a = halves(&block.bytes);
+        block.bytes = whole(encipher_halves(&self.words, a));
     }
 
-    fn decipher(&self, block: &mut BlockBuffer) {
-        let a = halves(block);
-        write_halves(block, decipher_halves(&self.words, a));
+    fn decipher(&self, block: &mut Block<Magma>) {
+        let a = halves(&block.bytes);
+        block.bytes = whole(decipher_halves(&self.words, a));
     }
 }

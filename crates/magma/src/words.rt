@@ -1,13 +1,14 @@
 // The words of a key and of a block, highest byte first.
-ghost use Rattle.std.specs.Prelude.{◌≡◌, ◌++◌, drop};
-ghost use Rattle.magma.specs.Magma.{key_words as key_words_of, halves as halves_of, whole};
+ghost use Rattle.std.specs.Prelude.{◌≡◌, take};
+ghost use Rattle.magma.specs.Magma.{key_words as key_words_of, key_bytes, halves as halves_of, whole as whole_of};
 
 use cipher::{BlockBuffer, KeyBuffer};
 use std::array;
 
-// K_1 to K_8.
+// K_1 to K_8, whose bytes are the key.
 pub fn key_words(key: &KeyBuffer) -> [u32; 8]
-    ensures { result ≡ key_words_of key.now }
+    ensures value { result ≡ key_words_of key.now }
+    ensures bytes { key_bytes result ≡ key.now }
 {
     let (words, _) = key.as_chunks::<4>();
     array::from_fn(|i| u32::from_be_bytes(words[i]))
@@ -24,10 +25,12 @@ pub fn halves(block: &BlockBuffer) -> (u32, u32)
     )
 }
 
-// Writes the words a_1 and a_0 as the block; the bytes past it stay.
-pub fn write_halves(block: &mut BlockBuffer, a: (u32, u32))
-    ensures { block.new ≡ whole a ++ drop 8 block.old }
+// The block of the words a_1 and a_0, in the first bytes.
+pub fn whole(a: (u32, u32)) -> BlockBuffer
+    ensures { take 8 result ≡ whole_of a }
 {
-    block[0..4].copy_from_slice(&a.0.to_be_bytes());
-    block[4..8].copy_from_slice(&a.1.to_be_bytes());
+    let (a1, a0) = a;
+    let [a, b, c, d] = a1.to_be_bytes();
+    let [e, f, g, h] = a0.to_be_bytes();
+    [a, b, c, d, e, f, g, h, 0, 0, 0, 0, 0, 0, 0, 0]
 }

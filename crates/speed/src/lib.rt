@@ -6,15 +6,17 @@ ghost use Rattle.aes.specs.Aes.{the_model};
 ghost use Rattle.speed.specs.Counter.{counter, enciphered, folded, checksum};
 
 use aes::Aes256;
-use cipher::BlockCipher;
+use cipher::{Block, BlockCipher, Key};
 
 // The words of the number i, enciphered and summed.
 fn turn<C: BlockCipher>(cipher: &C, i: u32) -> u32
     ensures { result ≡ folded (enciphered C.BlockCipher.model (C.BlockCipher.keyed cipher.now) (counter i)) }
 {
-    let mut block = u128::from(i).to_be_bytes();
+    let mut buffer = u128::from(i).to_be_bytes();
+    let mut block = Block::new(&buffer);
     cipher.encipher(&mut block);
-    let (words, _) = block.as_chunks::<4>();
+    block.write(&mut buffer);
+    let (words, _) = buffer.as_chunks::<4>();
     words
         .iter()
         .fold(0, |sum, word| sum ^ u32::from_be_bytes(*word))
@@ -30,5 +32,5 @@ fn sum<C: BlockCipher>(cipher: &C, count: u32) -> u32
 pub fn rattle_aes(count: u32) -> u32
     ensures { result ≡ checksum the_model (replicate 32 7) count }
 {
-    sum(&Aes256::schedule(&[7; 32]), count)
+    sum(&Aes256::schedule(&Key::new(&[7; 32])), count)
 }

@@ -7,7 +7,7 @@ ghost use Rattle.vectors.specs.Answers.{repeated, done, answered, Answers};
 use crate::kinds::{CipherName, Request, Task};
 use crate::request::parse;
 use aes::Aes256;
-use cipher::{BlockCipher, Key, KeyBuffer, renew};
+use cipher::{Block, BlockCipher, Key, KeyBuffer, renew};
 use magma::Magma;
 use std::alloc::{AllocError, Global};
 use text::to_hex;
@@ -27,16 +27,19 @@ fn renewed<C: BlockCipher>(key: Key<C>, times: u32) -> Key<C>
 fn perform<C: BlockCipher>(heap: Global, key: &KeyBuffer, task: Task) -> Result<String, AllocError>
     ensures { IfOk result (λ s. string_bytes s ≡ encoded (done C.BlockCipher.model key.now task)) }
 {
+    let key = Key::new(key);
     match task {
-        Task::Encipher(mut block) => {
-            C::schedule(key).encipher(&mut block);
-            to_hex(heap, &block[..C::block_len()])
+        Task::Encipher(buffer) => {
+            let mut block = Block::new(&buffer);
+            C::schedule(&key).encipher(&mut block);
+            to_hex(heap, block.as_slice())
         }
-        Task::Decipher(mut block) => {
-            C::schedule(key).decipher(&mut block);
-            to_hex(heap, &block[..C::block_len()])
+        Task::Decipher(buffer) => {
+            let mut block = Block::new(&buffer);
+            C::schedule(&key).decipher(&mut block);
+            to_hex(heap, block.as_slice())
         }
-        Task::Renew(times) => to_hex(heap, renewed::<C>(Key::new(key), times).as_slice()),
+        Task::Renew(times) => to_hex(heap, renewed::<C>(key, times).as_slice()),
     }
 }
 

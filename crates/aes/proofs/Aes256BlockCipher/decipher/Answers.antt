@@ -1,13 +1,13 @@
-use Rattle.std.proofs.Common.{◌≡◌, ◌-◌, ◌/◌, length, take, sym, ◌∙◌, arith}
+use Rattle.std.proofs.Common.{◌≡◌, ◌-◌, ◌/◌, length, sym, ◌∙◌, arith}
+use Rattle.std.proofs.lemmas.List.{take_all}
 use Rattle.aes.specs.Aes.{inv_cipher, dec256}
-use Rattle.aes.specs.Words.{bytes_of}
-use Rattle.aes.proofs.States.{whole}
 use Rattle.aes.proofs.Aes256BlockCipher.decipher.Goals as goal
 
 pub returns : goal.returns
 unfolding dec256
 returns c =
-    let b = c.args.block.now in
+    let b = c.block.inside.bytes in
     let self = c.args.self.now in
     let nr : length self.words / 4 - 1 ≡ 14 = omega arith in
-    c.inv_cipher.ensures ∙ (λ j. inv_cipher b (nr j) (self.made j)) ∙ sym (whole (dec256 (bytes_of (take 8 self.words))) b (omega arith))
+    let is : b ≡ c.args.block.now = sym (take_all 16 b (omega arith)) ∙ c.block.view_is in
+    take_all 16 c.inv_cipher-block-inside.result (omega arith) ∙ c.inv_cipher-block-inside.ensures ∙ (λ j. inv_cipher (is j) (nr j) (self.made j))

@@ -1,12 +1,11 @@
-use Rattle.std.proofs.Common.{◌++◌, reverse, drop, sym, ap, ◌∙◌}
-use Rattle.magma.specs.Magma.{dec, rounds, round_keys, whole}
+use Rattle.std.proofs.Common.{reverse, sym, ap, ◌∙◌}
+use Rattle.magma.specs.Magma.{dec, rounds, round_keys, halves, whole}
 use Rattle.magma.proofs.WordsAndBytes.{halves_front}
 use Rattle.magma.proofs.MagmaBlockCipher.decipher.Goals as goal
 
 pub returns : goal.returns
 unfolding dec
 returns c =
-    let b = c.args.block.now in
     let ks = sym c.args.self.now.kept in
-    let a = c.halves-a.ensures ∙ sym (halves_front b) in
-    c.write_halves.ensures ∙ ap (λ a. whole a ++ drop 8 b) (c.decipher_halves.ensures ∙ (λ j. rounds (reverse (round_keys (ks j))) (a j)))
+    let a = c.halves-a.ensures ∙ sym (halves_front c.block.inside.bytes) ∙ ap halves c.block.view_is in
+    c.whole-block-inside.ensures ∙ ap whole (c.decipher_halves.ensures ∙ (λ j. rounds (reverse (round_keys (ks j))) (a j)))
