@@ -9,21 +9,19 @@ use aes::Aes256;
 use cipher::{Block, BlockCipher, Key};
 
 // The words of the number i, enciphered and summed.
-fn turn<C: BlockCipher>(cipher: &C, i: u32) -> u32
-    ensures { result ≡ folded (enciphered C.BlockCipher.model (C.BlockCipher.keyed cipher.now) (counter i)) }
+fn turn(cipher: &Aes256, i: u32) -> u32
+    ensures { result ≡ folded (enciphered the_model (⟦<Aes256 as BlockCipher>⟧.keyed cipher.now) (counter i)) }
 {
-    let mut buffer = u128::from(i).to_be_bytes();
-    let mut block = Block::new(&buffer);
+    let mut block = Block::new(&u128::from(i).to_be_bytes());
     cipher.encipher(&mut block);
-    block.write(&mut buffer);
-    let (words, _) = buffer.as_chunks::<4>();
+    let (words, _) = block.as_slice().as_chunks::<4>();
     words
         .iter()
         .fold(0, |sum, word| sum ^ u32::from_be_bytes(*word))
 }
 
-fn sum<C: BlockCipher>(cipher: &C, count: u32) -> u32
-    ensures { result ≡ checksum C.BlockCipher.model (C.BlockCipher.keyed cipher.now) count }
+fn sum(cipher: &Aes256, count: u32) -> u32
+    ensures { result ≡ checksum the_model (⟦<Aes256 as BlockCipher>⟧.keyed cipher.now) count }
 {
     (0..count).fold(0, |sum, i| sum ^ turn(cipher, i))
 }
