@@ -42,7 +42,7 @@ fn inv_shift_sub(s: Columns) -> Columns
     inv_shift_rows(s).map(inv_sub_bytes)
 }
 
-// InvMixColumns of a column.
+// InvMixColumns of a column: the line of mix_column with the other look-up.
 fn inv_mix_column(w: u32) -> u32
     ensures { word_bytes result ≡ circulant 0x0e 0x0b 0x0d 0x09 (word_bytes w) }
 {

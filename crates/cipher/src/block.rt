@@ -5,7 +5,8 @@ use crate::{BlockBuffer, BlockCipher};
 use std::marker::{Model, PhantomData};
 
 // A block of a cipher, at the front of room for any. The room is open to those who write a cipher, since what makes one
-// cannot call what is made of one.
+// cannot call what is made of one. It is a type beside that of a key: one for both would take the room, the length and
+// what stands behind as parameters.
 #[derive(Drop)]
 pub struct Block<C: BlockCipher> {
     pub bytes: BlockBuffer,

@@ -7,7 +7,8 @@ use stacks::{AxisStack, Plan};
 use std::alloc::Global;
 use text::{from_decimal, from_hex, is};
 
-// The stack on an axis that a word names.
+// The stack on an axis that a word names. No TryFrom: the enum is of another crate, and a word that names none is not a
+// fault yet, since it may name a stack without an axis.
 fn axis_stack(word: &[u8]) -> Option<AxisStack>
     ensures { IsAxisStack word.now result }
 {

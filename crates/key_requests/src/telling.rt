@@ -5,7 +5,7 @@ ghost use Rattle.stacks.specs.Keys.{refusal as refusal_of, KeyGiven};
 ghost use Rattle.key_requests.specs.Keys.{asked, refusal_text as refusal_text_of, KeyTold};
 
 use crate::request::KeyRequest;
-use cipher::{BlockCipher, KeyBuffer};
+use cipher::{BlockCipher, Key, KeyBuffer};
 use keys::Refusal;
 use stacks::{KeyRefusal, key_of};
 use std::alloc::{AllocError, Global};
@@ -36,8 +36,7 @@ fn refusal_text(heap: Global, refusal: KeyRefusal) -> Result<String, AllocError>
 fn key_text<C: BlockCipher>(heap: Global, key: &KeyBuffer) -> Result<String, AllocError>
     ensures { IfOk result (λ s. string_bytes s ≡ encoded (take C.BlockCipher.model.key key.now)) }
 {
-    let n = C::key_len();
-    to_hex(heap, &key[0..n])
+    to_hex(heap, Key::<C>::new(key).as_slice())
 }
 
 // Writes the key that a request asks for.

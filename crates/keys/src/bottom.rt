@@ -65,6 +65,7 @@ impl<C: BlockCipher, K: Keys<C>> KeySource<C> for Bottom<C, K> {
     }
 
     fn note(&self) -> Result<u32, Refusal> {
+        // The count is all that tells: neither store of keys has a case for none that both could share.
         if self.keys.count() == 0 {
             return Err(Refusal {
                 level: 0,

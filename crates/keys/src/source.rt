@@ -10,7 +10,7 @@ use cipher::{BlockCipher, KeyBuffer};
 // A source of keys for a cipher, numbered from 0. It stands at a key's number, or nowhere before its first
 // move. Each of its levels has a quota, and a ledger of the keys that it has made.
 pub trait KeySource<C: BlockCipher>: Sized + Drop {
-    // What it is made of.
+    // What it is made of. This, where it stands and its ledgers are three members, since most clauses cite one alone.
     ghost stack: { Self → Stack };
 
     // The number that it stands at.

@@ -87,7 +87,7 @@ pub enum Task {
     Renew(u32),
 }
 
-// Zeros follow a key that is shorter than its buffer.
+// Keys and blocks stand in buffers, since a request is read before its cipher is a type. Zeros follow a key that is shorter.
 #[derive(Clone, Copy)]
 pub struct Request {
     pub cipher: CipherName,
@@ -139,6 +139,7 @@ impl From<AllocError> for Fault {
     }
 }
 
+// Its like in key_requests makes another enum: an impl is of one type.
 impl From<HexFault> for Fault {
     ghost from_gives = { λ h f. f ≡ of_hex h };
 
