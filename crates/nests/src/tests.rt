@@ -74,16 +74,17 @@ struct ToLast {
     last: u32,
 }
 
-// What a test looks at after it: the key, and the key of a second move to it; then ledgers, position and note, which
-// that changes in nothing, and the key past the last.
+// What a test looks at after it: the key, and the key of a second move to it; ledgers, which that does not change; the key
+// past the last; then position, note and count, which a refused move does not change.
 #[derive(Clone, Copy, PartialEq, Eq)]
 struct AtLast {
     key: Option<KeyBuffer>,
     again: Option<KeyBuffer>,
     ledgers: [Option<u32>; 6],
+    past: Option<KeyBuffer>,
     position: Option<u32>,
     note: (u32, u32),
-    past: Option<KeyBuffer>,
+    count: u32,
 }
 
 impl<C: BlockCipher> Visitor<C> for ToLast {
@@ -99,9 +100,10 @@ impl<C: BlockCipher> Visitor<C> for ToLast {
             key: moved.ok().map(|_| key),
             again: key_at(&mut source, self.last),
             ledgers: array::from_fn(|j| source.ledger(j as u32)),
+            past: key_at(&mut source, self.last.saturating_add(1)),
             position: source.position(),
             note: numbered(source.note()),
-            past: key_at(&mut source, self.last.saturating_add(1)),
+            count: source.count(),
         }
     }
 }
@@ -128,9 +130,10 @@ fn agree<C: BlockCipher, S: KeySource<C>>(a: S, b: S, last: u32, walked: [u32; 6
         key: seen.key,
         again: seen.key,
         ledgers: walked.map(Some),
+        past: None,
         position: Some(last),
         note: (5, 0),
-        past: None,
+        count: last.saturating_add(1),
     };
     let jumped = AtLast {
         ledgers: [1, 1, 1, 1, 1, 2].map(Some),
