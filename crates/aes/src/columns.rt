@@ -24,6 +24,7 @@ pub(crate) fn to_columns(s: Columns) -> [[u8; 4]; 4]
     s.map(u32::to_be_bytes)
 }
 
+#[tactic(auto, using(crate::specs::Law::spread, crate::proofs::States::length_bytes))]
 pub(crate) fn to_bytes(s: Columns) -> BlockBuffer
     ensures { result ≡ bytes_of s }
 {

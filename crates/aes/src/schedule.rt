@@ -38,6 +38,7 @@ pub(crate) fn key_expansion(key: &[u8], w: &mut [u32])
     ensures front { let nk = length key.now / 4 in bytes_of (take nk w.new) ≡ take (4 * nk) key.now }
 {
     let (words, _) = key.as_chunks::<4>();
+    // By the place in w: of a slice that is walked beside another by `zip` the words are not known afterwards.
     for (i, bytes) in words.iter().enumerate() {
         w[i] = u32::from_be_bytes(*bytes);
     }

@@ -2,7 +2,7 @@
 use Rattle.std.proofs.Common.{◌≡◌, ℕ, ◌+◌, ◌-◌, ◌*◌, ◌≤◌, List, [], ◌∷◌, ◌++◌, map, length, take, drop, sym, ap, ◌∙◌, suc-mul, add-one, arith}
 use borrow.Rule.Slice.PartMut.{put_mid}
 use Rattle.std.specs.List.{range_with_len, flat_map}
-use Rattle.std.proofs.lemmas.List.{length-append, length-drop, take_at, flat_map_more}
+use Rattle.std.proofs.lemmas.List.{map-id, length-append, length-drop, take_at, flat_map_more}
 use Rattle.std.proofs.lemmas.List.FromFn.{map-range_with_len_more}
 use Rattle.std.proofs.lemmas.Slice.{take-put_mid}
 
@@ -10,13 +10,9 @@ use Rattle.std.proofs.lemmas.Slice.{take-put_mid}
 pub front : (n : ℕ) (x rest b : List ℕ) → b ≡ x ++ drop n rest → length b ≡ length rest → n ≤ length rest → take n b ≡ x
 front n x rest b e l h = ap (take n) e ∙ take_at x (drop n rest) n (omega (arith, ap length e, length-append x (drop n rest), length-drop n rest))
 
-map_id : (xs : List ℕ) → map (λ x. x) xs ≡ xs
-map_id [] = λ i. []
-map_id (x ∷ xs) = ap (λ l. x ∷ l) (map_id xs)
-
 counting_more : (k : ℕ) → range_with_len 0 (k + 1) ≡ range_with_len 0 k ++ k ∷ []
 counting_more k =
-    sym (map_id (range_with_len 0 (k + 1))) ∙ map-range_with_len_more (λ x. x) 0 k k (omega arith) ∙ ap (λ l. l ++ k ∷ []) (map_id (range_with_len 0 k))
+    sym (map-id (range_with_len 0 (k + 1))) ∙ map-range_with_len_more (λ x. x) 0 k k (omega arith) ∙ ap (λ l. l ++ k ∷ []) (map-id (range_with_len 0 k))
 
 -- one part more
 joined_one : (f : ℕ → List ℕ) (k : ℕ) → flat_map f (range_with_len 0 k) ++ f k ≡ flat_map f (range_with_len 0 (k + 1))

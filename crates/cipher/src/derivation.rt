@@ -15,7 +15,8 @@ pub(crate) enum KeyBlocks {
     Constants,
     // The numbers from this one on, a block each.
     Numbers(u32),
-    // The numbers that belong to this key number, where so many belong to each, a block each.
+    // The numbers that belong to this key number, where so many belong to each, a block each: their first is counted where
+    // no bound on it has to be asked.
     Run(u32, u8),
     // The same numbers in half a block each, behind bytes FF.
     MarkedRun(u32, u8),
@@ -26,6 +27,7 @@ fn write_number(block: &mut [u8], t: u64)
     ensures { block.new ≡ number (length block.old) t }
 {
     let mut rest = t;
+    // Turned at the end: of a slice that is walked by `rev` the bytes are not known afterwards.
     for byte in block.iter_mut() {
         *byte = (rest % 256) as u8;
         rest /= 256;
@@ -38,10 +40,8 @@ fn write_ascending(block: &mut [u8], first: u8)
     requires { first + length block.old ≤ 256 }
     ensures { block.new ≡ range_with_len first (length block.old) }
 {
-    let mut next = first;
-    for byte in block.iter_mut() {
-        *byte = next;
-        next = next.wrapping_add(1);
+    for (i, byte) in block.iter_mut().enumerate() {
+        *byte = first + i as u8;
     }
 }
 
@@ -56,6 +56,7 @@ fn write_marked(block: &mut [u8], t: u64)
 
 impl KeyBlocks {
     // Writes block j.
+    #[tactic(auto, unfolding(crate::specs::Derivation::constant))]
     fn write(self, j: usize, block: &mut [u8])
         requires { (128 + j * length block.old + length block.old ≤ 256) × (j < 4) }
         ensures { block.new ≡ block_of (length block.old) self j }

@@ -49,7 +49,8 @@ impl<C: BlockCipher> Key<C> {
         Some(Key::new(&buffer))
     }
 
-    // The same key. It is not `Copy`: the borrow checker takes no copy of a type whose parameter has a bound.
+    // The same key. It is not `Copy`: the borrow checker takes no copy of a type whose parameter has a bound. A `clone` may
+    // fail.
     pub fn copy(&self) -> Key<C>
         ensures { result ≡ self.now }
     {

@@ -29,7 +29,7 @@ fn master_period(word: &[u8]) -> Option<u32>
     from_decimal(digits)
 }
 
-// The stack with no axis that a word names.
+// The stack with no axis that a word names, in the same form.
 #[tactic(auto, using(crate::proofs::Words::long_word))]
 fn root_stack(word: &[u8]) -> Option<Plan>
     ensures { IsRootStack word.now result }

@@ -14,8 +14,8 @@ use text::to_hex;
 // The number of the refusal for a stack that cannot be made.
 const STACK_REFUSED: u32 = 7;
 
-// The text of a refusal: its number, and the values that are told with it. It is a function, since a `Display` would
-// have to stand in the crate of the type.
+// The text of a refusal: its number, and the values that are told with it. As a `Display` it would stand in `stacks`, and
+// with it the definition of the text: that crate tells nothing.
 #[tactic(auto, using(crate::proofs::Texts::stack_text, crate::proofs::Texts::move_text))]
 fn refusal_text(heap: Global, refusal: KeyRefusal) -> Result<String, AllocError>
     ensures { IfOk result (λ s. string_bytes s ≡ refusal_text_of (refusal_of refusal)) }

@@ -4,3 +4,4 @@ pub mod Sources
 pub mod Moving
 pub mod Bottom
 pub mod Walks
+pub mod FoundedFacts

@@ -1,6 +1,7 @@
 // A source that stands on no other.
 ghost use Rattle.std.specs.Prelude.{◌≡◌, ℕ, ◌<◌, Some, None};
 ghost use Rattle.keys.specs.Bottom.{founded};
+ghost use Rattle.keys.specs.FoundedFacts.{founded_facts};
 
 use crate::keys::Keys;
 use crate::{KeySource, MakingFault, MoveFault, Refusal};
@@ -40,6 +41,8 @@ impl<C: BlockCipher, K: Keys<C>> KeySource<C> for Bottom<C, K> {
 
     ghost ledgers = { λ s _. s.given };
 
+    ghost facts = { λ s. founded_facts (K.Keys.count s.keys) (K.Keys.key s.keys) s.position s.given (K.Keys.few s.keys) s.within s.fresh };
+
     fn count(&self) -> u32 {
         self.keys.count()
     }
@@ -65,14 +68,11 @@ impl<C: BlockCipher, K: Keys<C>> KeySource<C> for Bottom<C, K> {
     }
 
     fn note(&self) -> Result<u32, Refusal> {
-        // The count is all that tells: neither store of keys has a case for none that both could share.
-        if self.keys.count() == 0 {
-            return Err(Refusal {
-                level: 0,
-                fault: MakingFault::KeyLength,
-            });
-        }
-        Ok(0)
+        let refusal = Refusal {
+            level: 0,
+            fault: MakingFault::KeyLength,
+        };
+        self.keys.key(0).map(|_| 0).ok_or(refusal)
     }
 
     fn move_to(&mut self, number: u32, key: &mut KeyBuffer) -> Result<(), MoveFault> {

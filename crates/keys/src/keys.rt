@@ -20,4 +20,6 @@ pub trait Keys<C: BlockCipher>: Sized + Drop {
     fn key(&self, number: u32) -> Option<&[u8]>
         ensures { MatchOption result (count self.now ≤ number)
             (λ k. (number < count self.now) × (k.now ≡ key self.now number) × (length k.now ≡ C.BlockCipher.model.key)) };
+
+    ghost few: { (s : Self) → count s ≤ 256 };
 }

@@ -1,6 +1,7 @@
 // A source of keys that stand in a lent buffer.
 ghost use Rattle.std.specs.Prelude.{◌≡◌, ◌*◌, ◌/◌, ◌%◌, ◌≤◌, length, take, drop, None};
 ghost use Rattle.keys.specs.Bottom.{ringed};
+ghost use Rattle.keys.specs.FoundedFacts.{ring_few};
 
 use crate::KeySource;
 use crate::bottom::Bottom;
@@ -23,6 +24,8 @@ impl<'a, C: BlockCipher> Keys<C> for LentKeys<'a, C> {
     ghost count = { λ s. length s.bytes.now / C.BlockCipher.model.key };
 
     ghost key = { λ s i. take C.BlockCipher.model.key (drop (i * C.BlockCipher.model.key) s.bytes.now) };
+
+    ghost few = { λ s. ring_few (length s.bytes.now) C.BlockCipher.model C.BlockCipher.laws s.few };
 
     fn count(&self) -> u32 {
         (self.bytes.len() / C::key_len()) as u32

@@ -1,6 +1,7 @@
 // A source of one key.
 ghost use Rattle.std.specs.Prelude.{◌≡◌, length, replicate, cond, is_some, unwrap_or, [], None};
 ghost use Rattle.keys.specs.Bottom.{rooted};
+ghost use Rattle.keys.specs.FoundedFacts.{one_few};
 
 use crate::KeySource;
 use crate::bottom::Bottom;
@@ -27,6 +28,8 @@ impl<C: BlockCipher> Keys<C> for OneKey<C> {
     ghost count = { λ s. cond (is_some s.0) 1 0 };
 
     ghost key = { λ s _. unwrap_or s.0 [] };
+
+    ghost few = { λ s. one_few (is_some s.0) };
 
     fn count(&self) -> u32 {
         self.0.is_some() as u32

@@ -57,4 +57,7 @@ pub trait KeySource<C: BlockCipher>: Sized + Drop {
         ensures cases { MatchResult result
             (λ _. Moved C.BlockCipher.model (stack self.old) (stands self.old) number (ledgers self.old) (ledgers self.new) (stands self.new) key.old key.new)
             (λ f. Kept f (stack self.old) number (self.new ≡ self.old) (key.new ≡ key.old)) };
+
+    // What holds in every state; a call of `count` says it too.
+    ghost facts: { (s : Self) → Facts (stack s) (stands s) (ledgers s) };
 }

@@ -4,3 +4,4 @@ pub mod Advanced
 pub mod Numbers
 pub mod LevelState
 pub mod OneProof
+pub mod LevelFacts

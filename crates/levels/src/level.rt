@@ -4,6 +4,7 @@ ghost use Rattle.keys.specs.Stack.{levels as levels_of};
 ghost use Rattle.keys.specs.Moving.{move_refusal};
 ghost use Rattle.levels.specs.Making.{stood, AtLimit};
 ghost use Rattle.levels.specs.LevelState.{stack_of, ledgers_of, Sits};
+ghost use Rattle.levels.specs.LevelFacts.{facts_of};
 ghost use Rattle.levels.specs.OneProof.{Sits-prop};
 
 use crate::maker::Maker;
@@ -31,7 +32,7 @@ impl<C: BlockCipher, S: KeySource<C>> KeySource<C> for Level<C, S> {
 
     ghost ledgers = { λ s. ledgers_of s.step (levels_of (S.KeySource.stack s.below)) s.maker.made (S.KeySource.ledgers s.below) };
 
-    #[tactic(auto, using(crate::proofs::Made::facts_of))]
+    #[tactic(auto, using(crate::specs::LevelFacts::facts_of))]
     fn count(&self) -> u32 {
         self.step.map_or(0, |step| step.count)
     }
@@ -85,6 +86,7 @@ impl<C: BlockCipher, S: KeySource<C>> KeySource<C> for Level<C, S> {
             .maker
             .prepare(self.kind, Key::new(&parent), onward, remainder);
         self.maker.make_through(self.kind, first, remainder);
+        // Field by field: `..step` is not taken of a struct with an invariant.
         self.step = Ok(Step {
             count: step.count,
             quota: step.quota,
@@ -94,6 +96,8 @@ impl<C: BlockCipher, S: KeySource<C>> KeySource<C> for Level<C, S> {
         self.maker.current.write(key);
         Ok(())
     }
+
+    ghost facts = { λ s. facts_of _ _ _ _ _ _ _ _ s.sits };
 }
 
 impl<C: BlockCipher, S: KeySource<C>> Level<C, S> {

@@ -16,7 +16,7 @@ pub(crate) struct Inner<C: BlockCipher> {
     pub stage: u32,
 }
 
-// Makes a level's keys by its kind, and counts them.
+// Makes a level's keys by its kind, and counts them. The kind is handed in: so no contract here says that it stays.
 #[derive(Drop)]
 pub(crate) struct Maker<C: BlockCipher> {
     pub inner: Inner<C>,

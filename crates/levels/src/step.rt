@@ -1,6 +1,5 @@
 // What each level keeps in numbers.
-ghost use Rattle.std.specs.Prelude.{◌≡◌, ℕ, ◌%◌, ◌<◌, ◌≤◌, is_none, Some, IfOk};
-ghost use Rattle.keys.specs.Sources.{Facts};
+ghost use Rattle.std.specs.Prelude.{◌≡◌, ℕ, ◌%◌, ◌<◌, ◌≤◌, is_none, Some};
 ghost use Rattle.levels.specs.Making.{barred, refused_by, Planned};
 ghost use Rattle.levels.specs.Onward.{onward as onward_from};
 
@@ -30,7 +29,6 @@ impl Step {
     // The numbers of a level of that kind on a source, or the first refusal that applies.
     fn plan<C: BlockCipher, S: KeySource<C>>(below: &S, kind: Kind) -> Result<Step, MakingFault>
         ensures cases { Planned (barred kind (is_none (S.KeySource.stands below.now)) (S.KeySource.stack below.now)) result (Numbers kind (S.KeySource.stack below.now)) }
-        ensures facts { IfOk result (λ _. Facts (S.KeySource.stack below.now) (S.KeySource.stands below.now) (S.KeySource.ledgers below.now)) }
     {
         if !kind.in_range() {
             return Err(MakingFault::OutOfRange);
@@ -58,7 +56,6 @@ impl Step {
         kind: Kind,
     ) -> Result<Step, Refusal>
         ensures cases { Planned (refused_by kind (is_none (S.KeySource.stands below.now)) (S.KeySource.stack below.now)) result (Numbers kind (S.KeySource.stack below.now)) }
-        ensures facts { IfOk result (λ _. Facts (S.KeySource.stack below.now) (S.KeySource.stands below.now) (S.KeySource.ledgers below.now)) }
     {
         below.note()?;
         let level = below.levels().min(MOST_LEVELS - 1);

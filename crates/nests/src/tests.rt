@@ -15,7 +15,8 @@ trait Visitor<C: BlockCipher>: Sized + Drop {
     fn visit<S: KeySource<C>>(self, source: S) -> Self::Seen;
 }
 
-// Levels to be made on one another: none, or the kind of the lowest and the levels above it.
+// Levels to be made on one another: none, or the kind of the lowest and the levels above it. Its like in `stacks` gives a key
+// and has a contract; this one lets a test look.
 trait Levels<C: BlockCipher>: Sized + Drop {
     fn on<S: KeySource<C>, V: Visitor<C>>(self, below: S, visitor: V) -> V::Seen;
 }
@@ -40,7 +41,7 @@ fn key_at<C: BlockCipher, S: KeySource<C>>(source: &mut S, number: u32) -> Optio
     Some(key)
 }
 
-// The level and the number of a note: 0 for a source that was made.
+// The level and the number of a note, 0 for a source that was made, as the tests expect them.
 fn numbered(note: Result<u32, Refusal>) -> (u32, u32) {
     match note {
         Ok(level) => (level, 0),

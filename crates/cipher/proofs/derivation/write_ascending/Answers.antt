@@ -5,10 +5,10 @@ use Rattle.cipher.proofs.derivation.write_ascending.Goals as goal
 
 pub returns : goal.returns
 returns c =
-    let b = c.loop-byte.block in
+    let b = c.loop-i.block in
     let a = c.args.first in
     let n = length c.args.block.now in
     let long = length-range_with_len a n in
     let same : length b ≡ n = omega arith in
     ext_get_or 0 b (range_with_len a n) (same ∙ sym long)
-    (λ k h. let l : k < n = omega arith in c.loop-byte.invariant.1 k (omega arith) ∙ sym (get_or-range_with_len a n k 0 l))
+    (λ k h. let l : k < n = omega arith in c.loop-i.invariant k (omega arith) ∙ sym (get_or-range_with_len a n k 0 l))

@@ -14,12 +14,12 @@ loop-number-preserved g c =
       low.stack ∙ v.0,
       c.move_to.array_long,
       behind C.key (key C (g.S.KeySource.stack c.loop-number.source) c.loop-number.number) c.loop-number.key c.move_to.new.key low.cases.key_is (omega (arith, c.move_to.array_long, v.1)) (omega (arith, v.1)) ∙ v.2,
-      λ p. walked_more (omega (arith, facts.few, facts.value)) (facts.facts.accepted (omega (arith, facts.value))) v.0 c.loop-number.number low.cases (v.3 p),
+      λ p. walked_more (omega (arith, facts.few, facts.value)) ((g.met.S.KeySource.facts c.args.source.now).accepted (omega (arith, facts.value))) v.0 c.loop-number.number low.cases (v.3 p),
     )
 
 pub returns-in_ok-move_to : goal.returns-in_ok-move_to
 returns-in_ok-move_to g c = λ p.
     let v = c.loop-number.invariant in
     let facts = c.count.ensures in
-    walk_ends (omega (arith, facts.few, facts.value)) (facts.facts.accepted (omega (arith, facts.value))) v.0 c.loop-number.number c.args.last (omega arith)
+    walk_ends (omega (arith, facts.few, facts.value)) ((g.met.S.KeySource.facts c.args.source.now).accepted (omega (arith, facts.value))) v.0 c.loop-number.number c.args.last (omega arith)
     c.in_ok-move_to.ensures.cases v.2 (v.3 p)
