@@ -10,7 +10,8 @@ use Rattle.std.proofs.lemmas.Slice.{take-put_mid}
 pub front : (n : ℕ) (x rest b : List ℕ) → b ≡ x ++ drop n rest → length b ≡ length rest → n ≤ length rest → take n b ≡ x
 front n x rest b e l h = ap (take n) e ∙ take_at x (drop n rest) n (omega (arith, ap length e, length-append x (drop n rest), length-drop n rest))
 
-counting_more : (k : ℕ) → range_with_len 0 (k + 1) ≡ range_with_len 0 k ++ k ∷ []
+-- the numbers below k + 1 are those below k and k
+pub counting_more : (k : ℕ) → range_with_len 0 (k + 1) ≡ range_with_len 0 k ++ k ∷ []
 counting_more k =
     sym (map-id (range_with_len 0 (k + 1))) ∙ map-range_with_len_more (λ x. x) 0 k k (omega arith) ∙ ap (λ l. l ++ k ∷ []) (map-id (range_with_len 0 k))
 

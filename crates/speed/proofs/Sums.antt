@@ -1,21 +1,15 @@
 -- The sums of the benchmark as folds. Assumes nothing.
-use Rattle.std.specs.Prelude.{◌≡◌, ℕ, zero, suc, ◌+◌, ◌/◌, ◌%◌, ◌^◌, ◌<◌, ◌≤◌, List, [], ◌∷◌, ◌++◌, fold, refl}
+use Rattle.std.specs.Prelude.{◌≡◌, ℕ, zero, suc, ◌/◌, ◌%◌, ◌^◌, ◌<◌, ◌≤◌, List, [], ◌∷◌, fold, refl}
 use Rattle.std.specs.Int.Bits.{bit_xor, xor_assoc, xor_zero_l}
 use Rattle.std.specs.List.{range_with_len}
-use Rattle.std.proofs.Common.{sym, ap, ◌∙◌, add-one, zero-add, lit≤, arith}
+use Rattle.std.proofs.Common.{sym, ap, ◌∙◌, add-one, lit≤, arith}
 use Rattle.std.proofs.Math.Nat.{div-eq_of_lt}
 use Rattle.std.specs.Int.{bytes_high_first}
-use Rattle.std.proofs.lemmas.List.FromFn.{map-range_with_len_more}
 use Rattle.std.proofs.lemmas.List.Sums.{fold-append}
-use mathlib.Core.List.{map-id}
 use Rattle.cipher.specs.Bytes.{word_bytes}
 use Rattle.cipher.specs.Model.{Model}
+use Rattle.cipher.proofs.Joining.{counting_more}
 use Rattle.speed.specs.Counter.{counter, enciphered, folded, checksum}
-
-counting_more : (n : ℕ) → range_with_len 0 (suc n) ≡ range_with_len 0 n ++ n ∷ []
-counting_more n =
-    ap (range_with_len 0) (sym (add-one n)) ∙ sym (map-id (range_with_len 0 (n + 1))) ∙ map-range_with_len_more (λ x. x) 0 n n (zero-add n)
-    ∙ ap (λ l. l ++ n ∷ []) (map-id (range_with_len 0 n))
 
 -- the sum of the numbers below n, enciphered
 pub checksum_fold : (c : Model) (key : List ℕ) (n : ℕ)
@@ -24,7 +18,7 @@ unfolding checksum
 checksum_fold c key zero = refl
 checksum_fold c key (suc n) =
     let h : ℕ → ℕ → ℕ = λ sum i. bit_xor sum (folded (enciphered c key (counter i))) in
-    ap (fold h 0) (counting_more n) ∙ fold-append h 0 (range_with_len 0 n) (n ∷ []) ∙ ap (λ sum. h sum n) (checksum_fold c key n)
+    ap (fold h 0) (ap (range_with_len 0) (sym (add-one n)) ∙ counting_more n) ∙ fold-append h 0 (range_with_len 0 n) (n ∷ []) ∙ ap (λ sum. h sum n) (checksum_fold c key n)
 
 -- a sum of four, from the first on
 pub regrouped : (a b c d : ℕ) → bit_xor (bit_xor (bit_xor (bit_xor 0 a) b) c) d ≡ bit_xor (bit_xor a b) (bit_xor c d)
