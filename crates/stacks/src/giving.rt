@@ -62,7 +62,8 @@ impl<C: BlockCipher, L: Levels<C>> Levels<C> for (Kind, L) {
     }
 }
 
-// Writes the key of that number of a stack on the root of a key, whose buffer is all zeros afterwards.
+// Writes the key of that number of a stack on the root of a key, whose buffer is all zeros afterwards. The quota stands beside
+// the plan, since words give the two apart, and a quota may be out of its range.
 pub fn key_of<C: BlockCipher>(
     plan: Plan,
     quota: u32,

@@ -13,7 +13,7 @@ pub fn split_words<'a>(heap: Global, line: &'a [u8]) -> Result<Vec<&'a [u8]>, Al
     line.split(|b| *b == BLANK).collect(heap)
 }
 
-// Whether a word is a name.
+// Whether a word is a name: where one name is asked for, and no match of several.
 pub fn is(word: &[u8], name: &str) -> bool
     ensures { Decides result (word.now ≡ name.now) }
 {

@@ -43,6 +43,7 @@ impl CipherName {
     }
 }
 
+// As that of Action below: an impl is of one type, and each has words of its own.
 impl TryFrom<&[u8]> for CipherName {
     type Error = Fault;
 
