@@ -1,5 +1,5 @@
 -- A walk in order makes each key of each level once. Assumes nothing.
-use Rattle.std.proofs.Common.{◌≡◌, ℕ, zero, suc, ◌+◌, ◌/◌, ◌%◌, ◌<◌, ◌≤◌, List, ◌++◌, length, drop, Some, None, Option, mod-lt, mul-pos, div-add-mod', div-le_self, arith}
+use Rattle.std.proofs.Common.{◌≡◌, ℕ, zero, suc, ◌+◌, ◌/◌, ◌%◌, ◌<◌, ◌≤◌, List, ◌++◌, length, drop, Some, None, Option, mod-lt, subst, mul-pos, div-add-mod', div-le_self, arith}
 use native.Mathlib.Nat.{zero-div}
 use Rattle.std.proofs.lemmas.List.{length-append, length-drop, drop_at}
 use Rattle.std.proofs.lemmas.Bool.Decides.{nat_tests}
@@ -35,9 +35,11 @@ walked_more {s = s} few ok e (suc i) m w = let one = λ (j : ℕ). above_some s 
 
 -- the last move of a walk
 pub walk_ends : {c : Model} {s now : Stack} {at to : Option ℕ} {before after : ℕ → ℕ} {held rest out : List ℕ} → count s ≤ 16777216 → Accepted s → now ≡ s → (n last : ℕ) → n ≡ last
-    → Moved c now at n before after to held out → drop c.key held ≡ rest → Walked (quotas s) n at before
+    → Moved c now at last before after to held out → drop c.key held ≡ rest → Walked (quotas s) n at before
     → (last < count s) × (out ≡ key c s last ++ rest) × Walked (quotas s) (suc last) to after
-walk_ends few ok e n last here m behind w = let walked = walked_more few ok e n m w in grind arith
+walk_ends {s = s} {at = at} {before = before} few ok e n last here m behind w =
+    let walked = walked_more few ok e last m (subst (λ k. Walked (quotas s) k at before) here w) in
+    grind arith
 
 -- the bytes behind a key stay
 pub behind : (n : ℕ) (x rest b : List ℕ) → b ≡ x ++ drop n rest → length b ≡ length rest → n ≤ length rest → drop n b ≡ drop n rest

@@ -20,8 +20,9 @@ pub fn walk<C: BlockCipher, S: KeySource<C>>(
     if last >= source.count() {
         return Err(MoveFault::PastCount);
     }
-    for number in 0..=last {
+    for number in 0..last {
         source.move_to(number, key)?;
     }
+    source.move_to(last, key)?;
     Ok(())
 }

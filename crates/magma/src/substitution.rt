@@ -38,7 +38,9 @@ fn by_bytes<F: Fn(usize, u8) -> u8>(a: u32, pair: F) -> u32
 pub fn substitute(a: u32) -> u32
     ensures { result ≡ t a }
 {
-    by_bytes(a, |i, b| by_rows(&ROWS, i, b))
+    // Once for the word: a constant with a ghost field is built anew at each use.
+    let rows = &ROWS;
+    by_bytes(a, |i, b| by_rows(rows, i, b))
 }
 
 // t(a), by the tables of two rows each: the same word, and faster.

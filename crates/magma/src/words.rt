@@ -1,5 +1,5 @@
 // The words of a key and of a block, highest byte first.
-ghost use Rattle.std.specs.Prelude.{◌≡◌, take};
+ghost use Rattle.std.specs.Prelude.{◌≡◌, take, drop, replicate};
 ghost use Rattle.magma.specs.Magma.{key_words as key_words_of, key_bytes, halves as halves_of, whole as whole_of};
 
 use cipher::{BlockBuffer, KeyBuffer};
@@ -25,9 +25,10 @@ pub fn halves(block: &BlockBuffer) -> (u32, u32)
     )
 }
 
-// The block of the words a_1 and a_0, in the first bytes.
+// The block of the words a_1 and a_0, in the first bytes, and zeros behind it.
 pub fn whole(a: (u32, u32)) -> BlockBuffer
-    ensures { take 8 result ≡ whole_of a }
+    ensures value { take 8 result ≡ whole_of a }
+    ensures rest { drop 8 result ≡ replicate 8 0 }
 {
     let (a1, a0) = a;
     let [a, b, c, d] = a1.to_be_bytes();

@@ -1,10 +1,12 @@
 -- Digits in pairs, and bytes, as crate hex reads and writes them. Assumes nothing.
-use Rattle.std.proofs.Common.{◌≡◌, ℕ, zero, suc, ◌+◌, ◌*◌, ◌/◌, ◌%◌, ◌<◌, ◌==◌, Bool, true, List, [], ◌∷◌, length, slice_index, ◌&&◌, Some, None, Ok, Err, Option, Result, is_some, ◌⊎◌, inl, inr, sym, refl, ap, ◌∙◌, arith}
+use Rattle.std.proofs.Common.{◌≡◌, ℕ, zero, suc, ◌+◌, ◌*◌, ◌/◌, ◌%◌, ◌<◌, ◌==◌, Bool, true, false, List, [], ◌∷◌, length, slice_index, ◌&&◌, Some, None, Ok, Err, Option, Result, is_some, ◌⊎◌, inl, inr, sym, refl, ap, ◌∙◌, arith}
 use Rattle.std.proofs.lemmas.Bool.Decides.{Decides-eqb, Decides-below_and}
 use Rattle.std.proofs.lemmas.Bool.{cases_eq}
+use Rattle.std.proofs.lemmas.Bool.Decides.{nat_tests}
+use Rattle.std.specs.Char.{is_ascii_hexdigit}
 use Rattle.hex.specs.declared.error.FromHexError.{FromHexError}
 use Rattle.hex.specs.declared.error.FromHexError.TheVariants.{InvalidHexCharacter, OddLength, InvalidStringLength, OutOfMemory}
-use Rattle.hex.specs.Hex.{hex_digit_value, digit_or_error, value_at, pair_value, decode_pairs, decode_of, encode_with, encode_upper, upper_digits, ◌>>=◌}
+use Rattle.hex.specs.Hex.{hex_digit_value, is_hex_digit, digit_or_error, value_at, pair_value, decode_pairs, decode_of, encode_with, encode_upper, upper_digits, ◌>>=◌}
 use Rattle.hex.proofs.HexLemmas.{decode_of-even, decode_of-ok, decode_of-err}
 use Rattle.text.specs.Hex.{Digit, Spells, Decoded, capital, encoded}
 use Rattle.text.specs.Faults.{of_error}
@@ -78,23 +80,37 @@ spells_pairs i (a ∷ b ∷ text) bytes e =
 pub decoded : (text bytes : List ℕ) → decode_of text ≡ Ok bytes → Spells text bytes
 decoded text bytes e = spells_pairs 0 text bytes (sym (decode_of-even text (decode_of-ok text bytes e).0) ∙ e)
 
--- what is spelled has an even number of digits, and no other character
+-- what is spelled has an even number of digits
+pub odd_spells_none : (text : List ℕ) → (length text % 2 ≡ 0 → ⊥) → (bytes : List ℕ) → Spells text bytes → ⊥
+odd_spells_none text odd bytes s = let pairs = s.pairs in odd (omega (arith, pairs))
+
+-- and no other character
+other_spells_none : (text : List ℕ) (i : ℕ) → i < length text → is_hex_digit (slice_index text i) ≡ false → (bytes : List ℕ) → Spells text bytes → ⊥
+other_spells_none text i lt none_there bytes s =
+    let none : (v : ℕ) → Digit (slice_index text i) v → ⊥ = λ v d. cc (ap is_some (digit_reads _ v d), none_there) in
+    elim (cases_eq (i % 2) 0) [
+      | inl even ↦
+          let at : 2 * (i / 2) ≡ i = omega arith in
+          let high = s.high (i / 2) (omega (arith, lt, s.pairs)) in
+          none _ (rw at at high)
+      | inr other ↦
+          let at : 2 * (i / 2) + 1 ≡ i = omega arith in
+          let low = s.low (i / 2) (omega (arith, lt, s.pairs)) in
+          none _ (rw at at low)
+    ]
+
+no_digit : (c : ℕ) → is_ascii_hexdigit c ≡ false → is_hex_digit c ≡ false
+no_digit c h = grind (arith, nat_tests)
+
+pub no_digit_spells_none : (text : List ℕ) (i : ℕ) → i < length text → is_ascii_hexdigit (slice_index text i) ≡ false → (bytes : List ℕ) → Spells text bytes → ⊥
+no_digit_spells_none text i lt other = other_spells_none text i lt (no_digit (slice_index text i) other)
+
+-- what does not decode is not spelled
 undecoded : (text : List ℕ) (e : FromHexError) → decode_of text ≡ Err e → (bytes : List ℕ) → Spells text bytes → ⊥
 undecoded text e h bytes s =
     elim (decode_of-err text e h) [
       | inl odd ↦ omega (arith, odd.0, s.pairs)
-      | inr bad ↦
-          let none : (v : ℕ) → Digit (slice_index text bad.0) v → ⊥ = λ v d. cc (ap is_some (digit_reads _ v d), bad.3) in
-          elim (cases_eq (bad.0 % 2) 0) [
-            | inl even ↦
-                let at : 2 * (bad.0 / 2) ≡ bad.0 = omega arith in
-                let high = s.high (bad.0 / 2) (omega (arith, bad.2, s.pairs)) in
-                none _ (rw at at high)
-            | inr other ↦
-                let at : 2 * (bad.0 / 2) + 1 ≡ bad.0 = omega arith in
-                let low = s.low (bad.0 / 2) (omega (arith, bad.2, s.pairs)) in
-                none _ (rw at at low)
-          ]
+      | inr bad ↦ other_spells_none text bad.0 bad.2 bad.3 bytes s
     ]
 
 pub refused : (text : List ℕ) (e : FromHexError) → (e ≡ OutOfMemory) ⊎ (decode_of text ≡ Err e) → Decoded text (Err (of_error e))

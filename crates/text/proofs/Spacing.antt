@@ -4,7 +4,7 @@ use Rattle.std.specs.List.{AllByRecursion, slice_split, onto_first}
 use Rattle.std.proofs.lemmas.Bool.{cases_eq}
 use Rattle.std.proofs.lemmas.List.Elements.{All-from_recursion}
 use Rattle.std.proofs.lemmas.List.Splits.{slice_split-cons_yes, slice_split-cons_no, slice_split_none, slice_split_at, join_with_byte-slice_split}
-use Rattle.text.specs.Words.{Word, spaced, TheWords}
+use Rattle.text.specs.Words.{Word, spaced, Words, TheWords}
 
 abbrev pub blank : ℕ → Bool
 blank c = c == 32
@@ -20,6 +20,10 @@ split_spaced (w ∷ []) h some = slice_split_none blank w (All-from_recursion _ 
 split_spaced (w ∷ v ∷ ws) h some =
     slice_split_at blank w 32 (spaced (v ∷ ws)) (All-from_recursion _ w (not_blank w h.0)) refl
     ∙ ap (λ vs. w ∷ vs) (split_spaced (v ∷ ws) h.1 (λ e. cc e))
+
+-- a line has one list of words
+pub words_same : (line : List ℕ) (ws vs : List (List ℕ)) → Words line ws → Words line vs → ws ≡ vs
+words_same line ws vs p q = sym (split_spaced ws p.words p.some) ∙ ap (slice_split blank) (sym p.whole ∙ q.whole) ∙ split_spaced vs q.words q.some
 
 -- a character more in front of the first word
 words_onto : (x : ℕ) (ws : List (List ℕ)) → (x ≡ 32 → ⊥) → AllByRecursion Word ws → AllByRecursion Word (onto_first x ws)
@@ -44,7 +48,5 @@ parts_are_words (x ∷ xs) =
 pub the_words : (line : List ℕ) (ws : List (List ℕ)) → ws ≡ slice_split blank line → TheWords line ws
 the_words line ws e =
     let parts = parts_are_words line in
-    rw e (record {
-      are = record { whole = sym (join_with_byte-slice_split 32 line); some = parts.1; words = parts.0 };
-      only = λ vs h. sym (split_spaced vs h.words h.some) ∙ ap (slice_split blank) (sym h.whole);
-    })
+    let are : Words line (slice_split blank line) = record { whole = sym (join_with_byte-slice_split 32 line); some = parts.1; words = parts.0 } in
+    rw e (record { are = are; only = λ vs h. words_same line vs (slice_split blank line) h are })

@@ -9,10 +9,15 @@ pub fn from_decimal(text: &[u8]) -> Option<u32>
     if text.is_empty() {
         return None;
     }
-    let mut total = 0u32;
+    let mut total = 0u64;
     for c in text {
-        let digit = char::from(*c).to_digit(10)?;
-        total = total.checked_mul(10)?.checked_add(digit)?;
+        if !c.is_ascii_digit() {
+            return None;
+        }
+        total = total * 10 + u64::from(*c - b'0');
+        if total > u64::from(u32::MAX) {
+            return None;
+        }
     }
-    Some(total)
+    Some(total as u32)
 }

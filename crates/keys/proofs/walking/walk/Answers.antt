@@ -17,9 +17,9 @@ loop-number-preserved g c =
       λ p. walked_more (omega (arith, facts.few, facts.value)) ((g.met.S.KeySource.facts c.args.source.now).accepted (omega (arith, facts.value))) v.0 c.loop-number.number low.cases (v.3 p),
     )
 
-pub returns-in_ok-move_to : goal.returns-in_ok-move_to
-returns-in_ok-move_to g c = λ p.
+pub returns : goal.returns
+returns g c = λ p.
     let v = c.loop-number.invariant in
     let facts = c.count.ensures in
     walk_ends (omega (arith, facts.few, facts.value)) ((g.met.S.KeySource.facts c.args.source.now).accepted (omega (arith, facts.value))) v.0 c.loop-number.number c.args.last (omega arith)
-    c.in_ok-move_to.ensures.cases v.2 (v.3 p)
+    c.in_ok-move_to-2.ensures.cases v.2 (v.3 p)

@@ -8,4 +8,4 @@ unfolding dec
 returns c =
     let ks = sym c.args.self.now.kept in
     let a = c.halves-a.ensures ∙ sym (halves_front c.block.inside.bytes) ∙ ap halves c.block.view_is in
-    c.whole-block-inside.ensures ∙ ap whole (c.decipher_halves.ensures ∙ (λ j. rounds (reverse (round_keys (ks j))) (a j)))
+    c.whole-block-inside.ensures.value ∙ ap whole (c.decipher_halves.ensures ∙ (λ j. rounds (reverse (round_keys (ks j))) (a j)))

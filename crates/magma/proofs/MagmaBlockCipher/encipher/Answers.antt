@@ -8,4 +8,4 @@ unfolding enc
 returns c =
     let ks = sym c.args.self.now.kept in
     let a = c.halves-a.ensures ∙ sym (halves_front c.block.inside.bytes) ∙ ap halves c.block.view_is in
-    c.whole-block-inside.ensures ∙ ap whole (c.encipher_halves.ensures ∙ (λ j. rounds (round_keys (ks j)) (a j)))
+    c.whole-block-inside.ensures.value ∙ ap whole (c.encipher_halves.ensures ∙ (λ j. rounds (round_keys (ks j)) (a j)))
