@@ -1,12 +1,16 @@
 // Levels are made on one another from a list of their kinds, and what stands on top is looked at by a visitor: the list
 // may be of any length, and no function names the nest of types.
+ghost use Rattle.std.specs.Prelude.{None};
+ghost use Rattle.nests.specs.Unready.{unready, unready_facts};
+
 use aes::Aes256;
 use cipher::{BlockCipher, KeyBuffer};
-use keys::{KeySource, Refusal, Ring, Root, walk};
+use keys::{KeySource, MakingFault, MoveFault, Refusal, Ring, Root, walk};
 use levels::Level;
 use magma::Magma;
 use rules::Kind;
 use std::array;
+use std::num::NonZeroU32;
 
 // Looks at a source.
 trait Visitor<C: BlockCipher>: Sized + Drop {
@@ -225,4 +229,66 @@ fn a_ring_holds_whole_keys(rt: HostRuntime) {
     let odd: Ring<Magma> = Ring::from_keys(&keys[0..33]);
     let three: Ring<Magma> = Ring::from_keys(&keys);
     assert!(rt; numbered(none.note()).1 == 1 && numbered(odd.note()).1 == 1 && three.count() == 3);
+}
+
+// A bottom of another make, which has no keys, and why.
+#[derive(Clone, Copy)]
+struct Unready(MakingFault);
+
+impl<C: BlockCipher> KeySource<C> for Unready {
+    ghost stack = { λ s. unready s.0 };
+
+    ghost stands = { λ _. None };
+
+    ghost ledgers = { λ _ _. 0 };
+
+    fn count(&self) -> u32 {
+        0
+    }
+
+    fn position(&self) -> Option<u32> {
+        None
+    }
+
+    fn levels(&self) -> u32 {
+        1
+    }
+
+    fn quota(&self, level: u32) -> Option<u32> {
+        (level == 0).then_some(1)
+    }
+
+    fn ledger(&self, level: u32) -> Option<u32> {
+        (level == 0).then_some(0)
+    }
+
+    fn renews_own_keys(&self) -> bool {
+        false
+    }
+
+    fn note(&self) -> Result<u32, Refusal> {
+        Err(Refusal {
+            level: 0,
+            fault: self.0,
+        })
+    }
+
+    fn move_to(&mut self, _number: u32, _key: &mut KeyBuffer) -> Result<(), MoveFault> {
+        Err(MoveFault::PastCount)
+    }
+
+    ghost facts = { λ s. unready_facts s.0 };
+}
+
+// Its note may have a number of its own. The level on it, whose own numbers are in order, and the one on that, whose own are not,
+// pass it on whole.
+#[test]
+fn a_note_of_another_make_is_passed_on(rt: HostRuntime) {
+    let note = NonZeroU32::new(9).map(|number| {
+        let unready = Unready(MakingFault::Other(number));
+        let low: Level<Magma, Unready> = Level::stand(unready, Kind::Fan { quota: 4 });
+        let top: Level<Magma, Level<Magma, Unready>> = Level::stand(low, Kind::Chain { quota: 0 });
+        numbered(top.note())
+    });
+    assert!(rt; note == Some((0, 9)));
 }
