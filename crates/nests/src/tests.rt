@@ -2,13 +2,14 @@
 // may be of any length, and no function names the nest of types.
 ghost use Rattle.std.specs.Prelude.{None};
 ghost use Rattle.nests.specs.Unready.{unready, unready_facts};
+ghost use Rattle.rules.specs.declared.kind.Kind.TheVariants.{Master};
 
 use aes::Aes256;
-use cipher::{BlockCipher, KeyBuffer};
+use cipher::{BlockCipher, Key, KeyBuffer, derive_from_master, renew};
 use keys::{KeySource, MakingFault, MoveFault, Refusal, Ring, Root, walk};
 use levels::Level;
 use magma::Magma;
-use rules::Kind;
+use rules::{Kind, Rule};
 use std::array;
 use std::num::NonZeroU32;
 
@@ -291,4 +292,58 @@ fn a_note_of_another_make_is_passed_on(rt: HostRuntime) {
         numbered(top.note())
     });
     assert!(rt; note == Some((0, 9)));
+}
+
+// A rule of another make: a master whose inner key goes by a period of 1 where it has none.
+#[derive(Clone, Copy)]
+struct Renewing {
+    quota: u32,
+    period: u32,
+}
+
+impl<C: BlockCipher> Rule<C> for Renewing {
+    ghost kind = { λ s. Master s.quota s.period };
+
+    fn quota(&self) -> u32 {
+        self.quota
+    }
+
+    fn in_range(&self) -> bool {
+        (1..=4096).contains(&self.quota) && (1..=4096).contains(&self.period)
+    }
+
+    fn renews(&self) -> bool {
+        true
+    }
+
+    fn renews_own_keys(&self) -> bool {
+        false
+    }
+
+    fn stage(&self, remainder: u32) -> u32 {
+        remainder / self.period.max(1)
+    }
+
+    fn step(&self, inner: &Key<C>) -> Key<C> {
+        renew(inner)
+    }
+
+    fn key(&self, inner: &Key<C>, remainder: u32) -> Key<C> {
+        derive_from_master(inner, remainder)
+    }
+}
+
+// A level by that rule has the keys and the note of one by the kind.
+fn like_a_master<C: BlockCipher>(quota: u32, period: u32) -> bool {
+    let (a, b): (Root<C>, Root<C>) = (rooted(), rooted());
+    let mut level = Level::stand(a, Renewing { quota, period });
+    let mut master = Level::stand(b, Kind::Master { quota, period });
+    numbered(level.note()) == numbered(master.note())
+        && key_at(&mut level, 3) == key_at(&mut master, 3)
+}
+
+#[test]
+fn a_level_by_a_rule_of_another_make(rt: HostRuntime) {
+    assert!(rt; like_a_master::<Aes256>(4, 2) && like_a_master::<Magma>(4, 2));
+    assert!(rt; like_a_master::<Aes256>(4, 0) && like_a_master::<Magma>(4097, 2));
 }

@@ -1,5 +1,5 @@
 // What a level asks of the rule by which it makes its keys.
-ghost use Rattle.std.specs.Prelude.{◌≡◌};
+ghost use Rattle.std.specs.Prelude.{◌≡◌, true};
 ghost use Rattle.rules.specs.declared.kind.Kind.{Kind};
 ghost use Rattle.rules.specs.Levels.{quota as quota_of, renews as renews_below, renews_own, ranged};
 ghost use Rattle.rules.specs.InnerKeys.{stage as stage_of, stepped, given};
@@ -29,9 +29,10 @@ pub trait Rule<C: BlockCipher>: Sized + Drop {
     fn renews_own_keys(&self) -> bool
         ensures { result ≡ renews_own (kind self.now) };
 
-    // How often the inner key has been replaced when the key of a remainder is made.
+    // How often the inner key has been replaced when the key of a remainder is made. Nothing is asked of numbers out of range:
+    // no level stands by them.
     fn stage(&self, remainder: u32) -> u32
-        ensures { result ≡ stage_of (kind self.now) remainder };
+        ensures { ranged (kind self.now) ≡ true → result ≡ stage_of (kind self.now) remainder };
 
     // What replaces an inner key.
     fn step(&self, inner: &Key<C>) -> Key<C>
