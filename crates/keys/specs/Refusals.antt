@@ -1,9 +1,10 @@
 -- The refusals of a making: for each its number, and when it applies. Assumes nothing.
 use Rattle.std.specs.Prelude.{ℕ, ◌*◌, Bool, false, not, ◌&&◌, nat_le, nat_lt, Ok, Err, Result}
+use Rattle.std.specs.Int.NonZero.{non_zero_u32_get}
 use Rattle.rules.specs.declared.kind.Kind.{Kind}
 use Rattle.rules.specs.Levels.{quota, renews, ranged}
 use Rattle.keys.specs.declared.refusals.MakingFault.{MakingFault}
-use Rattle.keys.specs.declared.refusals.MakingFault.TheVariants.{KeyLength, OutOfRange, NotFresh, KeysRenewed, TooLarge}
+use Rattle.keys.specs.declared.refusals.MakingFault.TheVariants.{KeyLength, OutOfRange, NotFresh, KeysRenewed, TooLarge, Other}
 use Rattle.keys.specs.declared.refusals.Refusal.{Refusal}
 
 -- what is to be made
@@ -34,6 +35,10 @@ abbrev pub is_too_large : Attempt → Bool
 is_too_large (of_buffer fits) = false
 is_too_large (on_source l fresh renewed n m) = not (nat_lt n 256 && nat_le (m * quota l) 16777216)
 
+-- a source of another make is none of these attempts
+abbrev pub of_another_make : Attempt → Bool
+of_another_make a = false
+
 pub record MakingRefusal : Type 0 where
   pub number : ℕ
   pub applies : Attempt → Bool
@@ -44,6 +49,7 @@ making_refusal OutOfRange = record { number = 2; applies = out_of_range }
 making_refusal NotFresh = record { number = 3; applies = not_fresh }
 making_refusal KeysRenewed = record { number = 4; applies = keys_renewed }
 making_refusal TooLarge = record { number = 5; applies = is_too_large }
+making_refusal (Other n) = record { number = non_zero_u32_get n; applies = of_another_make }
 
 abbrev pub making_number : MakingFault → ℕ
 making_number f = (making_refusal f).number

@@ -3,19 +3,23 @@ ghost use Rattle.std.specs.Prelude.{◌≡◌};
 ghost use Rattle.keys.specs.Refusals.{making_number};
 ghost use Rattle.keys.specs.Moving.{move_refusal};
 
+use std::num::NonZeroU32;
+
 // Why a source was not made.
 #[derive(Clone, Copy, PartialEq, Eq)]
 pub enum MakingFault {
     // A root's buffer does not hold one key, or a ring's 1 to 256 keys.
-    KeyLength = 1,
+    KeyLength,
     // A quota, a branch's number or a master's period is out of range.
-    OutOfRange = 2,
+    OutOfRange,
     // The source below has moved.
-    NotFresh = 3,
+    NotFresh,
     // A chain or a master on a source whose keys are renewed already.
-    KeysRenewed = 4,
+    KeysRenewed,
     // More than 256 levels, or more than 2^24 keys.
-    TooLarge = 5,
+    TooLarge,
+    // Why a source of another make was not made, by a number of its own: never 0, which tells of one that was made.
+    Other(NonZeroU32),
 }
 
 // Why a source did not move.
@@ -36,7 +40,14 @@ impl MakingFault {
     pub fn number(self) -> u32
         ensures { result ≡ making_number self }
     {
-        self as u32
+        match self {
+            MakingFault::KeyLength => 1,
+            MakingFault::OutOfRange => 2,
+            MakingFault::NotFresh => 3,
+            MakingFault::KeysRenewed => 4,
+            MakingFault::TooLarge => 5,
+            MakingFault::Other(number) => number.get(),
+        }
     }
 }
 

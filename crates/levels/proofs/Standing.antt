@@ -98,7 +98,7 @@ module _ {D : Type 0} {c : Model} {s : Stack} {below : Option ℕ} {low : ℕ �
       let is_parent : parent ≡ p = cut ∙ front c.key p (replicate 32 0) buffer moved.key_is long (key_within c laws) in
       let b = begun c s l t now i parent x first (renews_own l) at stands.here is_parent (f ∙ ap (λ y. first_of (renews_own l) y (i % t.quota)) e)
       (subst (λ y. MatchOption y ((x.key ≡ parent) × (x.stage ≡ 0)) (λ _. x ≡ now.inner)) e k) in
-      let done = a p b.0 b.1 in
+      let done = a p stands.accepted.1 b.0 b.1 in
       let is = by_inner c l p (i % t.quota) in
       grind arith
 

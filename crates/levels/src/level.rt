@@ -11,22 +11,22 @@ use crate::maker::Maker;
 use crate::step::{MOST_LEVELS, Step};
 use cipher::{BlockCipher, Key, KeyBuffer};
 use keys::{KeySource, MoveFault, Refusal};
-use rules::Kind;
+use rules::{Kind, Rule};
 
-// A level of some kind, which makes keys of each key of the source below.
+// A level, which makes keys of each key of the source below by a rule: a `Kind`, where no other type is named.
 #[derive(Drop)]
-pub struct Level<C: BlockCipher, S: KeySource<C>> {
+pub struct Level<C: BlockCipher, S: KeySource<C>, R: Rule<C> = Kind> {
     below: S,
-    kind: Kind,
+    rule: R,
     maker: Maker<C>,
     // Its numbers, or why it was not made.
     step: Result<Step, Refusal>,
     position: Option<u32>,
-    ghost sits: { Sits C.BlockCipher.model (S.KeySource.stack below) (S.KeySource.stands below) (S.KeySource.ledgers below) kind step position maker } by { Sits-prop _ _ _ _ _ _ _ _ },
+    ghost sits: { Sits C.BlockCipher.model (S.KeySource.stack below) (S.KeySource.stands below) (S.KeySource.ledgers below) (R.Rule.kind rule) step position maker } by { Sits-prop _ _ _ _ _ _ _ _ },
 }
 
-impl<C: BlockCipher, S: KeySource<C>> KeySource<C> for Level<C, S> {
-    ghost stack = { λ s. stack_of s.step s.kind (S.KeySource.stack s.below) };
+impl<C: BlockCipher, S: KeySource<C>, R: Rule<C>> KeySource<C> for Level<C, S, R> {
+    ghost stack = { λ s. stack_of s.step (R.Rule.kind s.rule) (S.KeySource.stack s.below) };
 
     ghost stands = { λ s. s.position };
 
@@ -64,7 +64,7 @@ impl<C: BlockCipher, S: KeySource<C>> KeySource<C> for Level<C, S> {
     }
 
     fn renews_own_keys(&self) -> bool {
-        self.step.is_ok() && self.kind.renews_own_keys()
+        self.step.is_ok() && self.rule.renews_own_keys()
     }
 
     fn note(&self) -> Result<u32, Refusal> {
@@ -84,8 +84,8 @@ impl<C: BlockCipher, S: KeySource<C>> KeySource<C> for Level<C, S> {
         self.below.move_to(number / step.quota, &mut parent)?;
         let first = self
             .maker
-            .prepare(self.kind, Key::new(&parent), onward, remainder);
-        self.maker.make_through(self.kind, first, remainder);
+            .prepare(&self.rule, Key::new(&parent), onward, remainder);
+        self.maker.make_through(&self.rule, first, remainder);
         // Field by field: `..step` is not taken of a struct with an invariant.
         self.step = Ok(Step {
             count: step.count,
@@ -100,12 +100,12 @@ impl<C: BlockCipher, S: KeySource<C>> KeySource<C> for Level<C, S> {
     ghost facts = { λ s. facts_of _ _ _ _ _ _ _ _ s.sits };
 }
 
-impl<C: BlockCipher, S: KeySource<C>> Level<C, S> {
+impl<C: BlockCipher, S: KeySource<C>, R: Rule<C>> Level<C, S, R> {
     // Its numbers, where it has a key of that number.
     fn step_to(&self, number: u32) -> Result<Step, MoveFault>
         ensures { MatchResult result
             (λ t. (self.now.step ≡ Ok t) × (number < t.count))
-            (λ f. (move_refusal f).given (⟦<Level<C, S> as KeySource<C>>⟧.stack self.now) number) }
+            (λ f. (move_refusal f).given (⟦<Level<C, S, R> as KeySource<C>>⟧.stack self.now) number) }
     {
         self.step
             .ok()
@@ -115,15 +115,15 @@ impl<C: BlockCipher, S: KeySource<C>> Level<C, S> {
 
     // Makes a level on a source. What is refused is a source all the same, without keys, and its note says why.
     #[tactic(auto, using(crate::proofs::Made::made_sits, crate::proofs::Made::made_stack, crate::proofs::Made::at_limit))]
-    pub fn stand(below: S, kind: Kind) -> Level<C, S>
-        ensures stack { ⟦<Level<C, S> as KeySource<C>>⟧.stack result ≡ stood kind (is_none (S.KeySource.stands below)) (S.KeySource.stack below) }
-        ensures stands { ⟦<Level<C, S> as KeySource<C>>⟧.stands result ≡ None }
-        ensures limit { levels_of (S.KeySource.stack below) ≡ 256 → AtLimit (S.KeySource.stack below) (⟦<Level<C, S> as KeySource<C>>⟧.stack result) }
+    pub fn stand(below: S, rule: R) -> Level<C, S, R>
+        ensures stack { ⟦<Level<C, S, R> as KeySource<C>>⟧.stack result ≡ stood (R.Rule.kind rule) (is_none (S.KeySource.stands below)) (S.KeySource.stack below) }
+        ensures stands { ⟦<Level<C, S, R> as KeySource<C>>⟧.stands result ≡ None }
+        ensures limit { levels_of (S.KeySource.stack below) ≡ 256 → AtLimit (S.KeySource.stack below) (⟦<Level<C, S, R> as KeySource<C>>⟧.stack result) }
     {
-        let step = Step::settle::<C, S>(&below, kind);
+        let step = Step::settle::<C, S, R>(&below, &rule);
         Level {
             below,
-            kind,
+            rule,
             maker: Maker::new(),
             step,
             position: None,

@@ -5,7 +5,7 @@ ghost use Rattle.levels.specs.Onward.{onward as onward_from};
 
 use cipher::BlockCipher;
 use keys::{KeySource, MakingFault, Refusal};
-use rules::Kind;
+use rules::Rule;
 
 pub(crate) const MOST_LEVELS: u32 = 256;
 
@@ -26,20 +26,23 @@ pub(crate) struct Step {
 impl Step {
     ghost use Rattle.levels.specs.Numbers.{Numbers};
 
-    // The numbers of a level of that kind on a source, or the first refusal that applies.
-    fn plan<C: BlockCipher, S: KeySource<C>>(below: &S, kind: Kind) -> Result<Step, MakingFault>
-        ensures cases { Planned (barred kind (is_none (S.KeySource.stands below.now)) (S.KeySource.stack below.now)) result (Numbers kind (S.KeySource.stack below.now)) }
+    // The numbers of a level by that rule on a source, or the first refusal that applies.
+    fn plan<C: BlockCipher, S: KeySource<C>, R: Rule<C>>(
+        below: &S,
+        rule: &R,
+    ) -> Result<Step, MakingFault>
+        ensures cases { Planned (barred (R.Rule.kind rule.now) (is_none (S.KeySource.stands below.now)) (S.KeySource.stack below.now)) result (Numbers (R.Rule.kind rule.now) (S.KeySource.stack below.now)) }
     {
-        if !kind.in_range() {
+        if !rule.in_range() {
             return Err(MakingFault::OutOfRange);
         }
         if below.position().is_some() {
             return Err(MakingFault::NotFresh);
         }
-        if kind.renews() && below.renews_own_keys() {
+        if rule.renews() && below.renews_own_keys() {
             return Err(MakingFault::KeysRenewed);
         }
-        let (count, quota) = (below.count(), kind.quota());
+        let (count, quota) = (below.count(), rule.quota());
         if below.levels() >= MOST_LEVELS || count as u64 * quota as u64 > MOST_KEYS {
             return Err(MakingFault::TooLarge);
         }
@@ -50,16 +53,16 @@ impl Step {
         })
     }
 
-    // The numbers of a level of that kind on a source, or why it is not made: a refusal of the source is passed on.
-    pub(crate) fn settle<C: BlockCipher, S: KeySource<C>>(
+    // The numbers of a level by that rule on a source, or why it is not made: a refusal of the source is passed on.
+    pub(crate) fn settle<C: BlockCipher, S: KeySource<C>, R: Rule<C>>(
         below: &S,
-        kind: Kind,
+        rule: &R,
     ) -> Result<Step, Refusal>
-        ensures cases { Planned (refused_by kind (is_none (S.KeySource.stands below.now)) (S.KeySource.stack below.now)) result (Numbers kind (S.KeySource.stack below.now)) }
+        ensures cases { Planned (refused_by (R.Rule.kind rule.now) (is_none (S.KeySource.stands below.now)) (S.KeySource.stack below.now)) result (Numbers (R.Rule.kind rule.now) (S.KeySource.stack below.now)) }
     {
         below.note()?;
         let level = below.levels().min(MOST_LEVELS - 1);
-        Step::plan::<C, S>(below, kind).map_err(|fault| Refusal { level, fault })
+        Step::plan::<C, S, R>(below, rule).map_err(|fault| Refusal { level, fault })
     }
 
     // The remainder to go on from, where the level stands under the same key below and before the number.

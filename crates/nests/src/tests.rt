@@ -1,12 +1,17 @@
 // Levels are made on one another from a list of their kinds, and what stands on top is looked at by a visitor: the list
 // may be of any length, and no function names the nest of types.
+ghost use Rattle.std.specs.Prelude.{None};
+ghost use Rattle.nests.specs.Unready.{unready, unready_facts};
+ghost use Rattle.rules.specs.declared.kind.Kind.TheVariants.{Master};
+
 use aes::Aes256;
-use cipher::{BlockCipher, KeyBuffer};
-use keys::{KeySource, Refusal, Ring, Root, walk};
+use cipher::{BlockCipher, Key, KeyBuffer, derive_from_master, renew};
+use keys::{KeySource, MakingFault, MoveFault, Refusal, Ring, Root, walk};
 use levels::Level;
 use magma::Magma;
-use rules::Kind;
+use rules::{Kind, Rule};
 use std::array;
+use std::num::NonZeroU32;
 
 // Looks at a source.
 trait Visitor<C: BlockCipher>: Sized + Drop {
@@ -225,4 +230,120 @@ fn a_ring_holds_whole_keys(rt: HostRuntime) {
     let odd: Ring<Magma> = Ring::from_keys(&keys[0..33]);
     let three: Ring<Magma> = Ring::from_keys(&keys);
     assert!(rt; numbered(none.note()).1 == 1 && numbered(odd.note()).1 == 1 && three.count() == 3);
+}
+
+// A bottom of another make, which has no keys, and why.
+#[derive(Clone, Copy)]
+struct Unready(MakingFault);
+
+impl<C: BlockCipher> KeySource<C> for Unready {
+    ghost stack = { λ s. unready s.0 };
+
+    ghost stands = { λ _. None };
+
+    ghost ledgers = { λ _ _. 0 };
+
+    fn count(&self) -> u32 {
+        0
+    }
+
+    fn position(&self) -> Option<u32> {
+        None
+    }
+
+    fn levels(&self) -> u32 {
+        1
+    }
+
+    fn quota(&self, level: u32) -> Option<u32> {
+        (level == 0).then_some(1)
+    }
+
+    fn ledger(&self, level: u32) -> Option<u32> {
+        (level == 0).then_some(0)
+    }
+
+    fn renews_own_keys(&self) -> bool {
+        false
+    }
+
+    fn note(&self) -> Result<u32, Refusal> {
+        Err(Refusal {
+            level: 0,
+            fault: self.0,
+        })
+    }
+
+    fn move_to(&mut self, _number: u32, _key: &mut KeyBuffer) -> Result<(), MoveFault> {
+        Err(MoveFault::PastCount)
+    }
+
+    ghost facts = { λ s. unready_facts s.0 };
+}
+
+// Its note may have a number of its own. The level on it, whose own numbers are in order, and the one on that, whose own are not,
+// pass it on whole.
+#[test]
+fn a_note_of_another_make_is_passed_on(rt: HostRuntime) {
+    let note = NonZeroU32::new(9).map(|number| {
+        let unready = Unready(MakingFault::Other(number));
+        let low: Level<Magma, Unready> = Level::stand(unready, Kind::Fan { quota: 4 });
+        let top: Level<Magma, Level<Magma, Unready>> = Level::stand(low, Kind::Chain { quota: 0 });
+        numbered(top.note())
+    });
+    assert!(rt; note == Some((0, 9)));
+}
+
+// A rule of another make: a master whose inner key goes by a period of 1 where it has none.
+#[derive(Clone, Copy)]
+struct Renewing {
+    quota: u32,
+    period: u32,
+}
+
+impl<C: BlockCipher> Rule<C> for Renewing {
+    ghost kind = { λ s. Master s.quota s.period };
+
+    fn quota(&self) -> u32 {
+        self.quota
+    }
+
+    fn in_range(&self) -> bool {
+        (1..=4096).contains(&self.quota) && (1..=4096).contains(&self.period)
+    }
+
+    fn renews(&self) -> bool {
+        true
+    }
+
+    fn renews_own_keys(&self) -> bool {
+        false
+    }
+
+    fn stage(&self, remainder: u32) -> u32 {
+        remainder / self.period.max(1)
+    }
+
+    fn step(&self, inner: &Key<C>) -> Key<C> {
+        renew(inner)
+    }
+
+    fn key(&self, inner: &Key<C>, remainder: u32) -> Key<C> {
+        derive_from_master(inner, remainder)
+    }
+}
+
+// A level by that rule has the keys and the note of one by the kind.
+fn like_a_master<C: BlockCipher>(quota: u32, period: u32) -> bool {
+    let (a, b): (Root<C>, Root<C>) = (rooted(), rooted());
+    let mut level = Level::stand(a, Renewing { quota, period });
+    let mut master = Level::stand(b, Kind::Master { quota, period });
+    numbered(level.note()) == numbered(master.note())
+        && key_at(&mut level, 3) == key_at(&mut master, 3)
+}
+
+#[test]
+fn a_level_by_a_rule_of_another_make(rt: HostRuntime) {
+    assert!(rt; like_a_master::<Aes256>(4, 2) && like_a_master::<Magma>(4, 2));
+    assert!(rt; like_a_master::<Aes256>(4, 0) && like_a_master::<Magma>(4097, 2));
 }

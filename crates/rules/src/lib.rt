@@ -2,5 +2,7 @@
 #![tactic(auto)]
 
 mod kind;
+mod rule;
 
 pub use kind::Kind;
+pub use rule::Rule;
