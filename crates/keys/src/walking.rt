@@ -23,6 +23,7 @@ pub fn walk<C: BlockCipher, S: KeySource<C>>(
     for number in 0..last {
         source.move_to(number, key)?;
     }
+    // The last by itself: in a loop over `0..=last` the compiler leaves what it takes out of this one.
     source.move_to(last, key)?;
     Ok(())
 }

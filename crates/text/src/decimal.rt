@@ -1,4 +1,5 @@
-// Numbers written in decimal digits. The library's `parse` takes a sign too, so it is not used.
+// Numbers written in decimal digits. The library's `parse` takes a sign too, so it is not used; nor is `to_digit`, which
+// takes twice the time.
 ghost use Rattle.text.specs.Numerals.{IsNumeral};
 
 // The number that the digits spell; none where there is no digit, another character, or a number past 32 bits.
