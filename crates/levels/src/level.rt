@@ -34,7 +34,10 @@ impl<C: BlockCipher, S: KeySource<C>, R: Rule<C>> KeySource<C> for Level<C, S, R
 
     #[tactic(auto, using(crate::specs::LevelFacts::facts_of))]
     fn count(&self) -> u32 {
-        self.step.map_or(0, |step| step.count)
+        match &self.step {
+            Ok(step) => step.count,
+            Err(_) => 0,
+        }
     }
 
     fn position(&self) -> Option<u32> {
@@ -48,7 +51,10 @@ impl<C: BlockCipher, S: KeySource<C>, R: Rule<C>> KeySource<C> for Level<C, S, R
     fn quota(&self, level: u32) -> Option<u32> {
         let below = self.below.levels();
         if level == below && below < MOST_LEVELS {
-            return Some(self.step.map_or(1, |step| step.quota));
+            return Some(match &self.step {
+                Ok(step) => step.quota,
+                Err(_) => 1,
+            });
         }
         self.below.quota(level)
     }
